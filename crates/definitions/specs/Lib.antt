@@ -1,0 +1,19 @@
+-- The definitions of document 01, in its order.
+pub mod Lists
+pub mod Refusal
+pub mod Matrix
+pub mod Real
+pub mod Job
+pub mod Permutation
+pub mod Transformation
+pub mod Symmetrization
+pub mod Snf
+pub mod Centering
+pub mod Cell
+pub mod Orbit
+pub mod Coordinates
+pub mod Wyckoff
+pub mod Standardize
+pub mod Report
+pub mod Demand
+pub mod Evaluate
