@@ -15,5 +15,7 @@ pub mod Coordinates
 pub mod Wyckoff
 pub mod Standardize
 pub mod Report
+pub mod Calls
 pub mod Demand
+pub mod SnfLaws
 pub mod Evaluate
