@@ -3,7 +3,7 @@ use Prim.Native.Nat.{ℕ}
 use mathlib.Core.Path.{_≡_, refl, sym, ap, _∙_, subst}
 use mathlib.Core.Bool.{Bool, true, false}
 use mathlib.Core.List.{List, [], _∷_}
-use mathlib.Core.Option.{Option, none, some}
+use mathlib.Core.Option.{Option, none, some, Option·none-ne-some, Option·some-injective}
 use mathlib.Core.Logic.{_⊎_, inl, inr, ⊎-elim}
 use lib.Dec.{T, eqb, eqb-refl}
 use Rattle.definitions.specs.Refusal.{Condition, Applies, NoneOf, upto, precedence, Past, PastAll, Outcome, accepted, refused, Returns}
@@ -23,7 +23,7 @@ unfoldable pub DecidedAll : List Condition → Type 0
 DecidedAll [] = Unit {0}
 DecidedAll (c ∷ cs) = Decided (c .holds) × DecidedAll cs
 
-or : {P Q : Type 0} → Decided P → Decided Q → Decided (P ⊎ Q)
+unfoldable pub or : {P Q : Type 0} → Decided P → Decided Q → Decided (P ⊎ Q)
 or (holds p) q = holds (inl p)
 or (fails p) (holds q) = holds (inr q)
 or (fails p) (fails q) = fails (⊎-elim p q)
@@ -78,3 +78,15 @@ unfoldable pub scan : (cs : List Condition) → DecidedAll cs → (ks : List ℕ
 unfolding applies step NoneOf
 scan cs ds [] = clear tt
 scan cs ds (k ∷ ks) = step cs k ks (applies cs ds k) (λ u. scan cs ds ks)
+
+abbrev pub numberIn : {cs : List Condition} {ks : List ℕ} → Verdict cs ks → Option ℕ
+numberIn (clear n) = none
+numberIn (first k a n) = some k
+numberIn unknown = none
+
+-- from the number that is found to the statement
+pub refuses : {A : Type 0} {cs : List Condition} (Answer : A → Type 0) (v : Verdict cs precedence) (k : ℕ) → numberIn v ≡ some k → Returns cs Answer (refused k)
+unfolding Returns
+refuses Answer (clear n) k e = absurd (Option·none-ne-some k e)
+refuses {A} {cs} Answer (first j a n) k e = subst (λ i. Applies cs i × Past i cs) (Option·some-injective j k e) (a, n)
+refuses Answer unknown k e = absurd (Option·none-ne-some k e)

@@ -1,2 +1,5 @@
-pub mod Scratch
+pub mod Computed
 pub mod Decide
+pub mod Evaluate
+pub mod Starred
+pub mod Jobs

@@ -1,0 +1,1 @@
+// The coordinate triplets of the Wyckoff table. The theorems stand in specs/.

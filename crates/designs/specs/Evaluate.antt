@@ -1,0 +1,298 @@
+-- The outcome of a job, found by deciding its conditions and doing its work, with the evidence that the definitions ask for.
+-- Where something could not be settled in the passes that are let, there is no outcome: nothing is guessed.
+use Prim.Native.Nat.{ℕ, _≤_}
+use native.Mathlib.Nat.{lt-irrefl, lt-of-le-of-lt}
+use mathlib.Core.Path.{_≡_, refl, sym, ap, _∙_, subst}
+use mathlib.Core.Bool.{Bool, true, false, not}
+use mathlib.Core.List.{List, [], _∷_, map}
+use mathlib.Core.Option.{Option, none, some, Option·none-ne-some, Option·some-injective}
+use mathlib.Core.Logic.{inl, inr}
+use lib.ListN.{length}
+use lib.Pow.{areBytes}
+use lib.Dec.{T, leb, ltb, leb→le}
+use lib.IntN.{ℤ}
+use Rattle.definitions.specs.Lists.{Some, all, any, those}
+use Rattle.definitions.specs.Refusal.{_when_, Applies, NoneOf, precedence, Outcome, accepted, refused, Returns, job-bytes, upto}
+use Rattle.definitions.specs.Matrix.{Matrix}
+use Rattle.definitions.specs.Snf.{Run, allAssigned, small, Leaves, points}
+use Rattle.definitions.specs.SnfLaws.{run-unique, stays}
+use Rattle.definitions.specs.Evaluate.{run, stage}
+use Rattle.definitions.specs.Coordinates.{Triplet, Reads, Readable, spaceless, inRange, rows, originOf}
+use Rattle.definitions.specs.Job.{Parts, Job, Candidate, IsJob, NoJob, jobOf}
+use Rattle.definitions.specs.Permutation.{isPermutation}
+use Rattle.definitions.specs.Transformation.{aligned, targetAbsent}
+use Rattle.definitions.specs.Symmetrization.{primitivePositions, latticeFails, oldBasis}
+use Rattle.definitions.specs.Cell.{siteMapping, copies, listedPositions}
+use Rattle.definitions.specs.Orbit.{Labels}
+use Rattle.definitions.specs.Wyckoff.{Space, IsSpace, AreSpaces, Lettering, Found, sitesOf, orbitWithoutFit}
+use Rattle.definitions.specs.Standardize.{siteCount, badCounts, badEntry, badFloat, badImage, badDeterminant, CandidateLeaves, tooManyListed, tooShort, letteringOf, Work, NoFit, Rule, rules, jobConditions, OfJob, bytesConditions, Answer, answerOf, BytesReturn}
+use Rattle.data_wyckoff.specs.Reader.{parse}
+use Rattle.data_wyckoff.specs.Reading.{read-unique, parse-reads, parse-none}
+use Rattle.base_cell.specs.Classes.{classes}
+use Rattle.base_cell.specs.Labels.{labelsBy, labels-computed}
+use Rattle.symmetrize_wyckoff.specs.Unique.{sites-unique}
+use Rattle.job.specs.Decode.{decode, decode-sound, not-a-job, job-unique}
+use Rattle.designs.specs.Computed.{computed}
+use Rattle.designs.specs.Decide.{Decided, holds, fails, unsettled, or, test, DecidedAll, Verdict, clear, first, unknown, scan}
+
+-- how many passes a stage is let
+abbrev passes : ℕ
+passes = 200
+
+-- ---- 6 and 8
+
+negated : {P : Type 0} → Decided P → Decided (P → ⊥)
+negated (holds p) = fails (λ n. n p)
+negated (fails n) = holds n
+negated unsettled = unsettled
+
+some-of : {A : Type 0} (P : A → Type 0) → ((a : A) → Decided (P a)) → (l : List A) → Decided (Some P l)
+unfolding Some or
+some-of P d [] = fails (λ x. x)
+some-of P d (a ∷ l) = or (d a) (some-of P d l)
+
+module _ (text : List ℕ) where
+  in-range : (t : Triplet) → Reads text t → (b : Bool) → inRange t ≡ b → Decided (Readable text)
+  in-range t r true e = holds (t, r, subst T (sym e) tt)
+  in-range t r false e = fails (λ x. subst T (ap inRange (read-unique text (x .0) t (x .1) r) ∙ e) (x .2))
+
+  by-tree : (o : Option Triplet) → parse (spaceless text) ≡ o → Decided (Readable text)
+  unfolding in-range
+  by-tree none e = fails (λ x. parse-none text e (x .0) (x .1))
+  by-tree (some t) e = in-range t (parse-reads text t e) (inRange t) refl
+
+unfoldable readable : (text : List ℕ) → Decided (Readable text)
+unfolding by-tree
+readable text = by-tree text (parse (spaceless text)) refl
+
+module _ {m : Matrix} where
+  by-entries : (r : Run m) (b : Bool) → all small (allAssigned r) ≡ b → Decided (Leaves m)
+  by-entries r true e = fails (stays r (subst T (sym e) tt))
+  by-entries r false e = holds (r, subst (λ b. T (not b)) (sym e) tt)
+
+  by-run : Option (Run m) → Decided (Leaves m)
+  unfolding by-entries
+  by-run none = unsettled
+  by-run (some r) = by-entries r (all small (allAssigned r)) refl
+
+unfoldable pub leaves : (m : Matrix) → Decided (Leaves m)
+unfolding by-run
+leaves m = by-run (run passes m)
+
+module _ (w : Candidate) where
+  of-tree : (t : Triplet) → Reads (w .text) t → Decided (Leaves (rows t)) → Decided (CandidateLeaves w)
+  of-tree t r (holds l) = holds (t, r, l)
+  of-tree t r (fails n) = fails (λ x. n (subst (λ u. Leaves (rows u)) (read-unique (w .text) (x .0) t (x .1) r) (x .2)))
+  of-tree t r unsettled = unsettled
+
+  of-text : (o : Option Triplet) → parse (spaceless (w .text)) ≡ o → Decided (CandidateLeaves w)
+  unfolding of-tree leaves
+  of-text none e = fails (λ x. parse-none (w .text) e (x .0) (x .1))
+  of-text (some t) e = of-tree t (parse-reads (w .text) t e) (leaves (rows t))
+
+unfoldable candidate-leaves : (w : Candidate) → Decided (CandidateLeaves w)
+unfolding of-text
+candidate-leaves w = of-text w (parse (spaceless (w .text))) refl
+
+-- ---- the work
+
+spaces-with : (w : Candidate) (ws : List Candidate) → Option ((s : Space) × IsSpace (w .text) s) → Option ((ss : List Space) × AreSpaces ws ss) → Option ((ss : List Space) × AreSpaces (w ∷ ws) ss)
+unfolding AreSpaces
+spaces-with w ws none q = none
+spaces-with w ws (some p) none = none
+spaces-with w ws (some p) (some q) = some (p .0 ∷ q .0, (p .1, q .1))
+
+module _ (w : Candidate) where
+  space-of : (t : Triplet) → Reads (w .text) t → Option (Run (rows t)) → Option ((s : Space) × IsSpace (w .text) s)
+  space-of t r none = none
+  space-of t r (some d) =
+      some (
+        record { matrix = rows t; shift = originOf t; snf = d .third },
+        record { triplet = t; reads = r; matrix = refl; shift = refl; run = d; snf = refl },
+      )
+
+  space-from : (o : Option Triplet) → parse (spaceless (w .text)) ≡ o → Option ((s : Space) × IsSpace (w .text) s)
+  unfolding space-of
+  space-from none e = none
+  space-from (some t) e = space-of t (parse-reads (w .text) t e) (run passes (rows t))
+
+unfoldable spaces : (ws : List Candidate) → Option ((ss : List Space) × AreSpaces ws ss)
+unfolding space-from spaces-with AreSpaces
+spaces [] = some ([], tt)
+spaces (w ∷ ws) = spaces-with w ws (space-from w (parse (spaceless (w .text))) refl) (spaces ws)
+
+-- labels need permutations, and a mapping into their sites
+labelled : (n : ℕ) (ps : List (List ℕ)) (mapping : List ℕ) (a b : Bool) → all (isPermutation n) ps ≡ a → all (λ i. ltb i n) mapping ≡ b → Option ((ls : List ℕ) × Labels ps mapping ls)
+labelled n ps mapping false b e f = none
+labelled n ps mapping true false e f = none
+labelled n ps mapping true true e f =
+    some (labelsBy (classes n ps) mapping, labels-computed n ps mapping (subst T (sym e) tt) (subst T (sym f) tt))
+
+module _ (j : Job) (r : Run (j .c)) where
+  found-of : Option ((ss : List Space) × AreSpaces (j .candidates) ss) → Option ((ls : List ℕ) × Labels (aligned j) (siteMapping (siteCount j) (copies (j .c))) ls) → Option (Work j)
+  found-of none q = none
+  found-of (some p) none = none
+  found-of (some p) (some q) = some (record { run = r; found = record { spaces = p .0; are-spaces = p .1; labels = q .0; are-labels = q .1 } })
+
+work-of : (j : Job) → Option (Run (j .c)) → Option (Work j)
+unfolding found-of spaces labelled
+work-of j none = none
+work-of j (some r) =
+    found-of j r (spaces (j .candidates))
+    (labelled (siteCount j) (aligned j) (siteMapping (siteCount j) (copies (j .c)))
+    (all (isPermutation (siteCount j)) (aligned j))
+    (all (λ i. ltb i (siteCount j)) (siteMapping (siteCount j) (copies (j .c))))
+    refl
+    refl)
+
+unfoldable work : (j : Job) → Option (Work j)
+unfolding work-of
+work j = work-of j (run passes (j .c))
+
+-- ---- 13
+
+-- the fits that one work finds are those of any other
+pub same-fit : {j : Job} (w : Work j) (r : Run (j .c)) (f : Found (letteringOf j r)) → orbitWithoutFit (sitesOf f) ≡ orbitWithoutFit (sitesOf (w .found))
+same-fit {j} w r f = by (points (r .third)) (ap points (run-unique r (w .run))) f
+  where
+    lettering : List (List ℤ) → Lettering
+    lettering pts =
+        record {
+          permutations = letteringOf j r .permutations;
+          mapping = letteringOf j r .mapping;
+          positions = listedPositions (j .c) (primitivePositions j) pts;
+          basis = letteringOf j r .basis;
+          candidates = j .candidates;
+          symprec = j .symprec;
+        }
+
+    by : (pts : List (List ℤ)) → pts ≡ points (w .run .third) → (f : Found (lettering pts)) → orbitWithoutFit (sitesOf f) ≡ orbitWithoutFit (sitesOf (w .found))
+    by pts e =
+        subst (λ q. (f : Found (lettering q)) → orbitWithoutFit (sitesOf f) ≡ orbitWithoutFit (sitesOf (w .found))) (sym e)
+        (λ f. ap orbitWithoutFit (sites-unique f (w .found)))
+
+module _ (j : Job) where
+  by-fit : (w : Work j) (b : Bool) → orbitWithoutFit (sitesOf (w .found)) ≡ b → Decided (NoFit j)
+  by-fit w true e = holds (w .run, (w .found, subst T (sym e) tt))
+  by-fit w false e = fails (λ x. subst T (same-fit w (x .0) (x .1 .0) ∙ e) (x .1 .1))
+
+  by-work : Option (Work j) → Decided (NoFit j)
+  unfolding by-fit
+  by-work none = unsettled
+  by-work (some w) = by-fit w (orbitWithoutFit (sitesOf (w .found))) refl
+
+unfoldable no-fit : (j : Job) → Decided (NoFit j)
+unfolding by-work work
+no-fit j = by-work j (work j)
+
+-- ---- the outcome
+
+decided : (j : Job) (rooms : List ℕ) → DecidedAll (jobConditions j rooms)
+unfolding DecidedAll test some-of negated readable leaves candidate-leaves no-fit or
+decided j rooms = (
+  test (badCounts j),
+  (
+    test (badEntry j),
+    (
+      test (badFloat j),
+      (
+        test (badImage j),
+        (
+          some-of (λ w. Readable (w .text) → ⊥) (λ w. negated (readable (w .text))) (j .candidates),
+          (
+            test (badDeterminant j),
+            (
+              or (leaves (j .c)) (some-of CandidateLeaves candidate-leaves (j .candidates)),
+              (
+                test (tooManyListed j),
+                (
+                  test (tooShort j rooms),
+                  (
+                    test (targetAbsent j),
+                    (
+                      test (latticeFails (oldBasis j) (j .rotations)),
+                      (
+                        no-fit j,
+                        tt,
+                      ),
+                    ),
+                  ),
+                ),
+              ),
+            ),
+          ),
+        ),
+      ),
+    ),
+  ),
+)
+
+-- ---- on bytes
+
+-- what is decided of the job is decided of its bytes
+module _ (bs : List ℕ) (p : Parts) (i : IsJob bs p) where
+  of-job : (P : Job → Type 0) → Decided (P (jobOf p)) → Decided (OfJob bs P)
+  of-job P (holds h) = holds (p, i, h)
+  of-job P (fails n) = fails (λ x. n (subst (λ q. P (jobOf q)) (job-unique bs (x .0) p (x .1) i) (x .2)))
+  of-job P unsettled = unsettled
+
+  of-rules : (rs : List Rule) → DecidedAll (map (λ r. r .number when r .holds (jobOf p)) rs) → DecidedAll (map (λ r. r .number when OfJob bs (r .holds)) rs)
+  unfolding DecidedAll of-job
+  of-rules [] ds = tt
+  of-rules (r ∷ rs) ds = (of-job (r .holds) (ds .0), of-rules rs (ds .1))
+
+abbrev Settled : List ℕ → List ℕ → Type 0
+Settled bs rooms = (o : Outcome Answer) × BytesReturn bs rooms o
+
+no-job : (bs rooms : List ℕ) → NoJob bs → Settled bs rooms
+unfolding Returns Applies NoneOf upto precedence
+no-job bs rooms n = (refused job-bytes, (inl n, tt))
+
+module _ (bs rooms : List ℕ) (p : Parts) (i : IsJob bs p) where
+  pub is-job : length bs ≤ 65536 → NoJob bs → ⊥
+  is-job h (inl l) = lt-irrefl (length bs) (lt-of-le-of-lt h l)
+  is-job h (inr n) = n p i
+
+  answered : NoneOf (bytesConditions bs rooms) precedence → Option (Work (jobOf p)) → Option (Settled bs rooms)
+  unfolding Returns
+  answered n none = none
+  answered n (some w) = some (accepted (answerOf w), (n, (p, i, (w, refl))))
+
+  settled : Verdict (bytesConditions bs rooms) precedence → Option (Settled bs rooms)
+  unfolding answered Returns work
+  settled (clear n) = answered n (work (jobOf p))
+  settled (first k a n) = some (refused k, (a, n))
+  settled unknown = none
+
+  by-length : (b : Bool) → leb (length bs) 65536 ≡ b → Option (Settled bs rooms)
+  unfolding settled of-rules decided scan DecidedAll
+  by-length false e = none
+  by-length true e =
+      settled
+      (scan (bytesConditions bs rooms)
+      (fails (is-job (leb→le (length bs) 65536 (subst T (sym e) tt))), of-rules bs p i (rules rooms) (decided (jobOf p) rooms))
+      precedence)
+
+by-bytes : (bs rooms : List ℕ) (p : Parts) → decode bs ≡ some p → (b : Bool) → areBytes bs ≡ b → Option (Settled bs rooms)
+unfolding by-length
+by-bytes bs rooms p e false f = none
+by-bytes bs rooms p e true f = by-length bs rooms p (decode-sound bs p e (subst T (sym f) tt)) (leb (length bs) 65536) refl
+
+by-parts : (bs rooms : List ℕ) (o : Option Parts) → decode bs ≡ o → Option (Settled bs rooms)
+unfolding by-bytes no-job
+by-parts bs rooms none e = some (no-job bs rooms (inr (not-a-job bs e)))
+by-parts bs rooms (some p) e = by-bytes bs rooms p e (areBytes bs) refl
+
+-- What the whole call on these bytes returns. Whoever unfolds it unfolds all that the definitions compute with.
+unfoldable pub evaluate : (bs rooms : List ℕ) → Option (Settled bs rooms)
+unfolding by-parts computed
+evaluate bs rooms = by-parts bs rooms (decode bs) refl
+
+abbrev pub outcomeIn : (bs rooms : List ℕ) → Option (Settled bs rooms) → Option (Outcome Answer)
+outcomeIn bs rooms none = none
+outcomeIn bs rooms (some s) = some (s .0)
+
+-- from the outcome that is found to the statement
+pub returns : (bs rooms : List ℕ) (s : Option (Settled bs rooms)) (o : Outcome Answer) → outcomeIn bs rooms s ≡ some o → BytesReturn bs rooms o
+returns bs rooms none o e = absurd (Option·none-ne-some o e)
+returns bs rooms (some s) o e = subst (BytesReturn bs rooms) (Option·some-injective (s .0) o e) (s .1)

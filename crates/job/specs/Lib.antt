@@ -1,0 +1,4 @@
+-- The bytes of a job have at most one reading, and a reader finds it.
+pub mod Reader
+pub mod Decode
+pub mod Worked

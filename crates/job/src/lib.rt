@@ -1,0 +1,1 @@
+// The job's bytes: specs/ proves that they have at most one reading.

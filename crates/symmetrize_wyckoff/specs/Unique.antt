@@ -1,0 +1,47 @@
+-- What is found of a design has one value at the most: the spaces of its candidates, its labels, and so its sites with their fits.
+use Prim.Native.Nat.{ℕ}
+use mathlib.Core.Path.{_≡_, refl, sym, ap, ap₂, _∙_, subst, pathJ}
+use mathlib.Core.List.{List, [], _∷_}
+use Rattle.definitions.specs.Snf.{State, Run}
+use Rattle.definitions.specs.SnfLaws.{run-unique}
+use Rattle.definitions.specs.Coordinates.{Triplet, Reads, rows, originOf}
+use Rattle.definitions.specs.Job.{Job, Candidate}
+use Rattle.definitions.specs.Orbit.{Labels}
+use Rattle.definitions.specs.Wyckoff.{Space, IsSpace, AreSpaces, Lettering, Found, Sites, sitesOf, choices}
+use Rattle.data_wyckoff.specs.Reading.{read-unique}
+use Rattle.base_cell.specs.Labels.{labels-unique}
+
+-- the runs of the matrices of equal trees end alike
+same-end : (t u : Triplet) → t ≡ u → (r : Run (rows t)) (s : Run (rows u)) → r .third ≡ s .third
+same-end t u e = pathJ (λ v p. (r : Run (rows t)) (s : Run (rows v)) → r .third ≡ s .third) (λ r s. run-unique r s) e
+
+pub space-unique : {text : List ℕ} {s s′ : Space} → IsSpace text s → IsSpace text s′ → s ≡ s′
+space-unique {text} {s} {s′} a b = λ i. record { matrix = m i; shift = q i; snf = d i }
+  where
+    e : a .triplet ≡ b .triplet
+    e = read-unique text (a .triplet) (b .triplet) (a .reads) (b .reads)
+
+    m : s .matrix ≡ s′ .matrix
+    m = a .matrix ∙ ap rows e ∙ sym (b .matrix)
+
+    q : s .shift ≡ s′ .shift
+    q = a .shift ∙ ap originOf e ∙ sym (b .shift)
+
+    d : s .snf ≡ s′ .snf
+    d = a .snf ∙ same-end (a .triplet) (b .triplet) e (a .run) (b .run) ∙ sym (b .snf)
+
+pub spaces-unique : (ws : List Candidate) (ss ss′ : List Space) → AreSpaces ws ss → AreSpaces ws ss′ → ss ≡ ss′
+unfolding AreSpaces
+spaces-unique [] [] [] a b = refl
+spaces-unique [] [] (s ∷ ss) a b = absurd b
+spaces-unique [] (s ∷ ss) ss′ a b = absurd a
+spaces-unique (w ∷ ws) [] ss′ a b = absurd a
+spaces-unique (w ∷ ws) (s ∷ ss) [] a b = absurd b
+spaces-unique (w ∷ ws) (s ∷ ss) (s′ ∷ ss′) a b = ap₂ (λ x y. x ∷ y) (space-unique (a .0) (b .0)) (spaces-unique ws ss ss′ (a .1) (b .1))
+
+-- the sites of a design, with labels and spaces
+pub sites-unique : {g : Lettering} (f f′ : Found g) → sitesOf f ≡ sitesOf f′
+sites-unique {g} f f′ =
+    ap₂ (λ ls ss. record { positions = g .positions; labels = ls; basis = g .basis; choices = choices (g .candidates) ss; symprec = g .symprec })
+    (labels-unique (f .are-labels) (f′ .are-labels))
+    (spaces-unique (g .candidates) (f .spaces) (f′ .spaces) (f .are-spaces) (f′ .are-spaces))
