@@ -7,16 +7,16 @@ use mathlib.Core.Logic.{_⊎_}
 use lib.ListN.{length, getD}
 use lib.Dec.{T, leb, ltb, eqb}
 use lib.IntN.{ℤ, natAbs}
-use lib.Ieee.{Float}
+use lib.Ieee.{Float, nan}
 use Rattle.definitions.specs.declared.Position.{Position}
 use Rattle.definitions.specs.Lists.{all, any, Some, upTo}
 use Rattle.definitions.specs.Refusal.{Condition, _when_, counts, matrix-entry, float-range, site-image, coordinates, determinant, diagonalisation, listed-sites, buffer, target-rotation, lattice, orbit-fit}
 use Rattle.definitions.specs.Matrix.{Matrix, det}
-use Rattle.definitions.specs.Real.{RealMatrix}
+use Rattle.definitions.specs.Real.{RealMatrix, zeroF}
 use Rattle.definitions.specs.Job.{Operation, Candidate}
 use Rattle.definitions.specs.Permutation.{isPermutation, permutationAt}
-use Rattle.definitions.specs.Transformation.{operationFor, isNone}
-use Rattle.definitions.specs.Symmetrization.{conventionalBasis, latticeFails}
+use Rattle.definitions.specs.Transformation.{rotationAbsent, transformPosition}
+use Rattle.definitions.specs.Symmetrization.{symmetrized, conventionalBasis, latticeFails}
 use Rattle.definitions.specs.Snf.{State, Run, Leaves}
 use Rattle.definitions.specs.Cell.{copies}
 use Rattle.definitions.specs.Coordinates.{Readable}
@@ -90,29 +90,74 @@ productConditions p q room =
 abbrev pub badImages : ℕ → ℕ → List ℕ → Bool
 badImages n k images = not (all (λ o. isPermutation n (permutationAt n images o)) (upTo k))
 
--- Align k operations of n sites to targets: 2, 3, 5, 7, 10, 11. The answer has n entries a target.
-abbrev pub alignConditions : Matrix → List Operation → List ℕ → ℕ → List Matrix → ℕ → List Condition
-alignConditions t os images n gs room =
-    (counts when T (tooManySites n || notSome (length os) || notSome (length gs) || not (eqb (length images) (length os * n))))
-    ∷ (matrix-entry when T (not (inRange t) || not (all (λ o. inRange (o .rotation)) os) || not (all inRange gs)))
-    ∷ (site-image when T (badImages n (length os) images))
+-- k permutations of n sites out of one list
+abbrev pub permutationsOf : ℕ → ℕ → List ℕ → List (List ℕ)
+permutationsOf n k images = map (permutationAt n images) (upTo k)
+
+-- Align the permutations of n sites to targets, all by their rotations: 2, 3, 5, 7, 10, 11. The answer has n entries a target.
+abbrev pub alignConditions : Matrix → List Matrix → List ℕ → ℕ → List Matrix → ℕ → List Condition
+alignConditions t rs images n gs room =
+    (counts when T (tooManySites n || notSome (length rs) || notSome (length gs) || not (eqb (length images) (length rs * n))))
+    ∷ (matrix-entry when T (not (inRange t) || not (all inRange rs) || not (all inRange gs)))
+    ∷ (site-image when T (badImages n (length rs) images))
     ∷ (determinant when T (notUnimodular t))
     ∷ (buffer when T (ltb room (length gs * n)))
-    ∷ (target-rotation when T (any (λ g. isNone (operationFor t os g)) gs))
+    ∷ (target-rotation when T (rotationAbsent t rs gs))
     ∷ []
 
 -- ---- floats
 
--- Symmetrise n positions under targets, each with its permutation: 2, 3, 4, 5, 7, 10.
-abbrev pub symmetrizeConditions : Matrix → Position → List Position → List Operation → List ℕ → ℕ → List Condition
-symmetrizeConditions t shift ps gs images room =
-    (counts when T (tooManySites (length ps) || notSome (length gs) || not (eqb (length images) (length gs * length ps))))
-    ∷ (matrix-entry when T (not (inRange t) || not (all (λ g. inRange (g .rotation)) gs)))
-    ∷ (float-range when T (not (positionWithin shift) || not (all positionWithin ps) || not (all (λ g. positionWithin (g .translation)) gs)))
+-- A lent entry of three floats and the position that it is.
+abbrev pub positionFrom : List Float → Position
+positionFrom v = record { x = getD v 0 nan; y = getD v 1 nan; z = getD v 2 nan }
+
+abbrev pub cellsOf : Position → List Float
+cellsOf p = p .x ∷ p .y ∷ p .z ∷ []
+
+abbrev pub zeroCells : List Float
+zeroCells = zeroF ∷ zeroF ∷ zeroF ∷ []
+
+-- lent rotations and translations, two lists, as operations
+unfoldable pub operationsFrom : List Matrix → List (List Float) → List Operation
+operationsFrom [] vs = []
+operationsFrom (m ∷ ms) [] = []
+operationsFrom (m ∷ ms) (v ∷ vs) = record { rotation = m; translation = positionFrom v } ∷ operationsFrom ms vs
+
+abbrev pub cellsWithin : List Float → Bool
+cellsWithin v = positionWithin (positionFrom v)
+
+-- n positions, targets as two lists, and a permutation of the positions for each
+abbrev pub badTargetCounts : ℕ → List Matrix → List (List Float) → List ℕ → Bool
+badTargetCounts n gs vs images =
+    tooManySites n || notSome (length gs) || not (eqb (length vs) (length gs)) || not (eqb (length images) (length gs * n))
+
+-- Symmetrise positions of any size (moyo's `symmetrize_positions`): 2, 3, 5, 10.
+abbrev pub symmetrizePositionsConditions : List (List Float) → List Matrix → List (List Float) → List ℕ → ℕ → List Condition
+symmetrizePositionsConditions ps gs vs images room =
+    (counts when T (badTargetCounts (length ps) gs vs images))
+    ∷ (matrix-entry when T (not (all inRange gs)))
+    ∷ (site-image when T (badImages (length ps) (length gs) images))
+    ∷ (buffer when T (ltb room (length ps)))
+    ∷ []
+
+abbrev pub symmetrizedCells : List Position → List Matrix → List (List Float) → List ℕ → List (List Float)
+symmetrizedCells ps gs vs images =
+    map cellsOf (symmetrized ps (operationsFrom gs vs) (permutationsOf (length ps) (length gs) images))
+
+-- Transform given positions and symmetrise them: 2, 3, 4, 5, 7, 10.
+abbrev pub symmetrizeConditions : Matrix → Position → List (List Float) → List Matrix → List (List Float) → List ℕ → ℕ → List Condition
+symmetrizeConditions t shift ps gs vs images room =
+    (counts when T (badTargetCounts (length ps) gs vs images))
+    ∷ (matrix-entry when T (not (inRange t) || not (all inRange gs)))
+    ∷ (float-range when T (not (positionWithin shift) || not (all cellsWithin ps) || not (all cellsWithin vs)))
     ∷ (site-image when T (badImages (length ps) (length gs) images))
     ∷ (determinant when T (notUnimodular t))
     ∷ (buffer when T (ltb room (length ps)))
     ∷ []
+
+-- its answer
+abbrev pub transformedCells : Matrix → Position → List (List Float) → List Position
+transformedCells t shift ps = map (λ v. transformPosition t shift (positionFrom v)) ps
 
 -- the lattice L under the conventional rotations rs: 2, 3, 4, 7, 12
 abbrev pub latticeConditions : RealMatrix → Matrix → Matrix → List Matrix → List Condition
@@ -154,10 +199,6 @@ labelConditions n k images mapping rooms =
     ∷ (listed-sites when T (ltb 1024 (length mapping)))
     ∷ (buffer when T (any (λ room. ltb room (length mapping)) rooms))
     ∷ []
-
--- the permutations of such a list, one by one
-abbrev pub permutationsOf : ℕ → ℕ → List ℕ → List (List ℕ)
-permutationsOf n k images = map (permutationAt n images) (upTo k)
 
 -- the floats of a match: a basis, positions and symprec
 abbrev pub badMatchFloats : RealMatrix → List Position → Float → Bool

@@ -1,6 +1,7 @@
 -- The definitions of document 01, in its order.
 pub mod Lists
 pub mod Refusal
+pub mod Checked
 pub mod Matrix
 pub mod Real
 pub mod Job

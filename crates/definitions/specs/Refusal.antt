@@ -1,9 +1,11 @@
 -- "A call returns an accepted answer, or one number and nothing else." The one place of the numbers, and of the order in which they are checked.
-use Prim.Native.Nat.{ℕ}
+use Prim.Native.Nat.{ℕ, _-_}
 use mathlib.Core.Bool.{Bool, true, false}
-use mathlib.Core.List.{List, [], _∷_}
+use mathlib.Core.Path.{_≡_}
+use mathlib.Core.List.{List, [], _∷_, _++_}
 use mathlib.Core.Logic.{_⊎_, inl, inr}
 use lib.Dec.{T, eqb}
+use lib.ListN.{length, replicate}
 use Rattle.definitions.specs.declared.Verdict.{Verdict}
 use Rattle.definitions.specs.declared.Verdict.the-variants.{Accepted, Refused}
 
@@ -115,3 +117,25 @@ Returns cs Answer (refused k) = Applies cs k × Past k cs
 abbrev pub outcomeOf : {A : Type 0} → A → Verdict → Outcome A
 outcomeOf a Accepted = accepted a
 outcomeOf a (Refused k) = refused k
+
+-- The verdict v is right for the conditions cs: accepted where no number applies, and otherwise refused with the first that does.
+unfoldable pub Checked : List Condition → Verdict → Type 0
+unfolding Returns
+Checked cs v = Returns cs (λ (u : Unit {0}). Unit {0}) (outcomeOf tt v)
+
+-- a list at the front of so many cells, the others zero
+abbrev pub padded : {A : Type 0} → A → List A → ℕ → List A
+padded zero front room = front ++ replicate (room - length front) zero
+
+-- what a call writes: its answer if it accepts, nothing if it refuses
+abbrev pub written : {A : Type 0} → Verdict → List A → List A
+written Accepted answer = answer
+written (Refused k) answer = []
+
+-- A lent list after the call: "After a refusal all lent output is zero", "and so are output entries past the answer".
+abbrev pub Lent : {A : Type 0} → A → List A → List A → List A → Verdict → Type 0
+Lent zero answer entry exit v = exit ≡ padded zero (written v answer) (length entry)
+
+-- a call with the conditions cs whose answer stands in one lent list
+abbrev pub Filled : {A : Type 0} → A → List Condition → List A → List A → List A → Verdict → Type 0
+Filled zero cs answer entry exit v = Checked cs v × Lent zero answer entry exit v

@@ -13,7 +13,7 @@ use Rattle.definitions.specs.Matrix.{Matrix, mat}
 use Rattle.definitions.specs.Real.{RealMatrix, zeroF, origin, atF, real, realOf, mulF, transposeF, applyF, addP, subP, mapP, sumP, sumM, inverseOfC, roundAway, isFinite, cholesky, detF, inverseF}
 use Rattle.definitions.specs.Permutation.{inverseImage}
 use Rattle.definitions.specs.Job.{Job, Operation}
-use Rattle.definitions.specs.Transformation.{aligned, transformed}
+use Rattle.definitions.specs.Transformation.{alignedTo, aligned, transformed}
 
 -- ---- positions
 
@@ -46,7 +46,7 @@ symmetrized ps gs perms = map (symmetrizedAt ps gs perms) (upTo (length ps))
 
 -- the job's primitive positions
 unfoldable pub primitivePositions : Job → List Position
-unfolding symmetrized transformed aligned
+unfolding symmetrized transformed alignedTo
 primitivePositions j = symmetrized (transformed j) (j .targets) (aligned j)
 
 -- ---- lattice

@@ -29,31 +29,37 @@ sameRow a b i = sameZ (at a i 0) (at b i 0) && sameZ (at a i 1) (at b i 1) && sa
 abbrev pub sameMatrix : Matrix → Matrix → Bool
 sameMatrix a b = sameRow a b 0 && sameRow a b 1 && sameRow a b 2
 
-abbrev pub rotationAt : List Operation → ℕ → Matrix
-rotationAt os k = getD (map (λ o. o .rotation) os) k []
+abbrev pub rotationsOf : List Operation → List Matrix
+rotationsOf = map (λ o. o .rotation)
 
 -- the place of "the operation whose rotation became the target's"; "equal rotations, the last wins"
-unfoldable pub operationFor : Matrix → List Operation → Matrix → Option ℕ
+unfoldable pub operationFor : Matrix → List Matrix → Matrix → Option ℕ
 unfolding first
-operationFor t os g = first (λ k. sameMatrix (transformRotation t (rotationAt os k)) g) (reverse (upTo (length os)))
+operationFor t rs g = first (λ k. sameMatrix (transformRotation t (getD rs k [])) g) (reverse (upTo (length rs)))
 
 abbrev pub isNone : Option ℕ → Bool
 isNone none = true
 isNone (some k) = false
 
 -- Refusal 11: "A target rotation absent among the transformed operations."
-unfoldable pub targetAbsent : Job → Bool
+unfoldable pub rotationAbsent : Matrix → List Matrix → List Matrix → Bool
 unfolding any operationFor
-targetAbsent j = any (λ g. isNone (operationFor (j .t) (j .operations) (g .rotation))) (j .targets)
+rotationAbsent t rs gs = any (λ g. isNone (operationFor t rs g)) gs
+
+abbrev pub targetAbsent : Job → Bool
+targetAbsent j = rotationAbsent (j .t) (rotationsOf (j .operations)) (rotationsOf (j .targets))
 
 abbrev pub permutationOr : ℕ → List ℕ → Option ℕ → List ℕ
 permutationOr n images none = []
 permutationOr n images (some k) = permutationAt n images k
 
--- "The aligned permutations are a list with one for each target, in the order of the targets"
-unfoldable pub aligned : Job → List (List ℕ)
+-- "The aligned permutations are a list with one for each target, in the order of the targets": of n sites, T, the operations' rotations and images, and the targets' rotations
+unfoldable pub alignedTo : ℕ → Matrix → List Matrix → List ℕ → List Matrix → List (List ℕ)
 unfolding operationFor
-aligned j = map (λ g. permutationOr (length (j .sites)) (j .images) (operationFor (j .t) (j .operations) (g .rotation))) (j .targets)
+alignedTo n t rs images gs = map (λ g. permutationOr n images (operationFor t rs g)) gs
+
+abbrev pub aligned : Job → List (List ℕ)
+aligned j = alignedTo (length (j .sites)) (j .t) (rotationsOf (j .operations)) (j .images) (rotationsOf (j .targets))
 
 -- "positions become T⁻¹(p - shift)"
 abbrev pub transformPosition : Matrix → Position → Position → Position

@@ -6,7 +6,7 @@ use Rattle.definitions.specs.Refusal.{precedence, Applies, NoneOf, upto, Return
 use Rattle.definitions.specs.Real.{roundAway, rootCut, rootPattern, rootOfFields, sqrt, cholesky}
 use Rattle.definitions.specs.Job.{jobOf}
 use Rattle.definitions.specs.Permutation.{isPermutation, inverseImage}
-use Rattle.definitions.specs.Transformation.{operationFor, targetAbsent, aligned, transformed}
+use Rattle.definitions.specs.Transformation.{operationFor, rotationAbsent, alignedTo, transformed}
 use Rattle.definitions.specs.Symmetrization.{displacements, symmetrizedAt, symmetrized, primitivePositions, latticeFails, symmetrizedBasis, primitiveBasis, listedBasis}
 use Rattle.definitions.specs.Snf.{places, lesser, least, moved, signed, clearRow, clearColumn, cleared, box, points}
 use Rattle.definitions.specs.Evaluate.{stage, run}
@@ -20,5 +20,5 @@ use Rattle.base_cell.specs.Labels.{place, places as placesOf, labelsBy}
 use Rattle.job.specs.Decode.{decode}
 
 unfoldable pub computed : Unit {0}
-unfolding ofBits toBits round size odd ofFields add sum mul div rem lt le eq neg sub units span climb ofInt trailingZeros any all firstOf those count upFrom each Some precedence Applies NoneOf upto Returns roundAway rootCut rootPattern rootOfFields sqrt cholesky jobOf isPermutation inverseImage operationFor targetAbsent aligned transformed displacements symmetrizedAt symmetrized primitivePositions latticeFails symmetrizedBasis primitiveBasis listedBasis places lesser least moved signed clearRow clearColumn cleared box points stage run listedPositions listedPoints siteMapping multiplicities orbit orbits isTriplet print rows originOf inRange offsets residual distance fitsAt matchFrom fits125 AreSpaces choices siteFits siteFitsAny orbitFits letterOf orbitWithoutFit letters tokens token step parse replaced merge along alongAll classes place placesOf labelsBy decode
+unfolding ofBits toBits round size odd ofFields add sum mul div rem lt le eq neg sub units span climb ofInt trailingZeros any all firstOf those count upFrom each Some precedence Applies NoneOf upto Returns roundAway rootCut rootPattern rootOfFields sqrt cholesky jobOf isPermutation inverseImage operationFor rotationAbsent alignedTo transformed displacements symmetrizedAt symmetrized primitivePositions latticeFails symmetrizedBasis primitiveBasis listedBasis places lesser least moved signed clearRow clearColumn cleared box points stage run listedPositions listedPoints siteMapping multiplicities orbit orbits isTriplet print rows originOf inRange offsets residual distance fitsAt matchFrom fits125 AreSpaces choices siteFits siteFitsAny orbitFits letterOf orbitWithoutFit letters tokens token step parse replaced merge along alongAll classes place placesOf labelsBy decode
 computed = tt

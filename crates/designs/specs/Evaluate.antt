@@ -33,7 +33,11 @@ use Rattle.base_cell.specs.Labels.{labelsBy, labels-computed}
 use Rattle.symmetrize_wyckoff.specs.Unique.{sites-unique}
 use Rattle.job.specs.Decode.{decode, decode-sound, not-a-job, job-unique}
 use Rattle.designs.specs.Computed.{computed}
-use Rattle.designs.specs.Decide.{Decided, holds, fails, unsettled, or, test, DecidedAll, Verdict, clear, first, unknown, scan}
+use Rattle.definitions.specs.Checked.{Tested, holds, fails, untested, either, TestedAll, Found as Verdict, clear, first, unknown, scan}
+
+unfoldable pub test : (b : Bool) → Tested (T b)
+test true = holds tt
+test false = fails (λ t. t)
 
 -- how many passes a stage is let
 abbrev passes : ℕ
@@ -41,56 +45,56 @@ passes = 200
 
 -- ---- 6 and 8
 
-negated : {P : Type 0} → Decided P → Decided (P → ⊥)
+negated : {P : Type 0} → Tested P → Tested (P → ⊥)
 negated (holds p) = fails (λ n. n p)
 negated (fails n) = holds n
-negated unsettled = unsettled
+negated untested = untested
 
-some-of : {A : Type 0} (P : A → Type 0) → ((a : A) → Decided (P a)) → (l : List A) → Decided (Some P l)
-unfolding Some or
+some-of : {A : Type 0} (P : A → Type 0) → ((a : A) → Tested (P a)) → (l : List A) → Tested (Some P l)
+unfolding Some either
 some-of P d [] = fails (λ x. x)
-some-of P d (a ∷ l) = or (d a) (some-of P d l)
+some-of P d (a ∷ l) = either (d a) (some-of P d l)
 
 module _ (text : List ℕ) where
-  in-range : (t : Triplet) → Reads text t → (b : Bool) → inRange t ≡ b → Decided (Readable text)
+  in-range : (t : Triplet) → Reads text t → (b : Bool) → inRange t ≡ b → Tested (Readable text)
   in-range t r true e = holds (t, r, subst T (sym e) tt)
   in-range t r false e = fails (λ x. subst T (ap inRange (read-unique text (x .0) t (x .1) r) ∙ e) (x .2))
 
-  by-tree : (o : Option Triplet) → parse (spaceless text) ≡ o → Decided (Readable text)
+  by-tree : (o : Option Triplet) → parse (spaceless text) ≡ o → Tested (Readable text)
   unfolding in-range
   by-tree none e = fails (λ x. parse-none text e (x .0) (x .1))
   by-tree (some t) e = in-range t (parse-reads text t e) (inRange t) refl
 
-unfoldable readable : (text : List ℕ) → Decided (Readable text)
+unfoldable readable : (text : List ℕ) → Tested (Readable text)
 unfolding by-tree
 readable text = by-tree text (parse (spaceless text)) refl
 
 module _ {m : Matrix} where
-  by-entries : (r : Run m) (b : Bool) → all small (allAssigned r) ≡ b → Decided (Leaves m)
+  by-entries : (r : Run m) (b : Bool) → all small (allAssigned r) ≡ b → Tested (Leaves m)
   by-entries r true e = fails (stays r (subst T (sym e) tt))
   by-entries r false e = holds (r, subst (λ b. T (not b)) (sym e) tt)
 
-  by-run : Option (Run m) → Decided (Leaves m)
+  by-run : Option (Run m) → Tested (Leaves m)
   unfolding by-entries
-  by-run none = unsettled
+  by-run none = untested
   by-run (some r) = by-entries r (all small (allAssigned r)) refl
 
-unfoldable pub leaves : (m : Matrix) → Decided (Leaves m)
+unfoldable pub leaves : (m : Matrix) → Tested (Leaves m)
 unfolding by-run
 leaves m = by-run (run passes m)
 
 module _ (w : Candidate) where
-  of-tree : (t : Triplet) → Reads (w .text) t → Decided (Leaves (rows t)) → Decided (CandidateLeaves w)
+  of-tree : (t : Triplet) → Reads (w .text) t → Tested (Leaves (rows t)) → Tested (CandidateLeaves w)
   of-tree t r (holds l) = holds (t, r, l)
   of-tree t r (fails n) = fails (λ x. n (subst (λ u. Leaves (rows u)) (read-unique (w .text) (x .0) t (x .1) r) (x .2)))
-  of-tree t r unsettled = unsettled
+  of-tree t r untested = untested
 
-  of-text : (o : Option Triplet) → parse (spaceless (w .text)) ≡ o → Decided (CandidateLeaves w)
+  of-text : (o : Option Triplet) → parse (spaceless (w .text)) ≡ o → Tested (CandidateLeaves w)
   unfolding of-tree leaves
   of-text none e = fails (λ x. parse-none (w .text) e (x .0) (x .1))
   of-text (some t) e = of-tree t (parse-reads (w .text) t e) (leaves (rows t))
 
-unfoldable candidate-leaves : (w : Candidate) → Decided (CandidateLeaves w)
+unfoldable candidate-leaves : (w : Candidate) → Tested (CandidateLeaves w)
 unfolding of-text
 candidate-leaves w = of-text w (parse (spaceless (w .text))) refl
 
@@ -172,23 +176,23 @@ same-fit {j} w r f = by (points (r .third)) (ap points (run-unique r (w .run))) 
         (λ f. ap orbitWithoutFit (sites-unique f (w .found)))
 
 module _ (j : Job) where
-  by-fit : (w : Work j) (b : Bool) → orbitWithoutFit (sitesOf (w .found)) ≡ b → Decided (NoFit j)
+  by-fit : (w : Work j) (b : Bool) → orbitWithoutFit (sitesOf (w .found)) ≡ b → Tested (NoFit j)
   by-fit w true e = holds (w .run, (w .found, subst T (sym e) tt))
   by-fit w false e = fails (λ x. subst T (same-fit w (x .0) (x .1 .0) ∙ e) (x .1 .1))
 
-  by-work : Option (Work j) → Decided (NoFit j)
+  by-work : Option (Work j) → Tested (NoFit j)
   unfolding by-fit
-  by-work none = unsettled
+  by-work none = untested
   by-work (some w) = by-fit w (orbitWithoutFit (sitesOf (w .found))) refl
 
-unfoldable no-fit : (j : Job) → Decided (NoFit j)
+unfoldable no-fit : (j : Job) → Tested (NoFit j)
 unfolding by-work work
 no-fit j = by-work j (work j)
 
 -- ---- the outcome
 
-decided : (j : Job) (rooms : List ℕ) → DecidedAll (jobConditions j rooms)
-unfolding DecidedAll test some-of negated readable leaves candidate-leaves no-fit or
+decided : (j : Job) (rooms : List ℕ) → TestedAll (jobConditions j rooms)
+unfolding TestedAll test some-of negated readable leaves candidate-leaves no-fit either
 decided j rooms = (
   test (badCounts j),
   (
@@ -202,7 +206,7 @@ decided j rooms = (
           (
             test (badDeterminant j),
             (
-              or (leaves (j .c)) (some-of CandidateLeaves candidate-leaves (j .candidates)),
+              either (leaves (j .c)) (some-of CandidateLeaves candidate-leaves (j .candidates)),
               (
                 test (tooManyListed j),
                 (
@@ -231,13 +235,13 @@ decided j rooms = (
 
 -- what is decided of the job is decided of its bytes
 module _ (bs : List ℕ) (p : Parts) (i : IsJob bs p) where
-  of-job : (P : Job → Type 0) → Decided (P (jobOf p)) → Decided (OfJob bs P)
+  of-job : (P : Job → Type 0) → Tested (P (jobOf p)) → Tested (OfJob bs P)
   of-job P (holds h) = holds (p, i, h)
   of-job P (fails n) = fails (λ x. n (subst (λ q. P (jobOf q)) (job-unique bs (x .0) p (x .1) i) (x .2)))
-  of-job P unsettled = unsettled
+  of-job P untested = untested
 
-  of-rules : (rs : List Rule) → DecidedAll (map (λ r. r .number when r .holds (jobOf p)) rs) → DecidedAll (map (λ r. r .number when OfJob bs (r .holds)) rs)
-  unfolding DecidedAll of-job
+  of-rules : (rs : List Rule) → TestedAll (map (λ r. r .number when r .holds (jobOf p)) rs) → TestedAll (map (λ r. r .number when OfJob bs (r .holds)) rs)
+  unfolding TestedAll of-job
   of-rules [] ds = tt
   of-rules (r ∷ rs) ds = (of-job (r .holds) (ds .0), of-rules rs (ds .1))
 
@@ -265,7 +269,7 @@ module _ (bs rooms : List ℕ) (p : Parts) (i : IsJob bs p) where
   settled unknown = none
 
   by-length : (b : Bool) → leb (length bs) 65536 ≡ b → Option (Settled bs rooms)
-  unfolding settled of-rules decided scan DecidedAll
+  unfolding settled of-rules decided scan TestedAll
   by-length false e = none
   by-length true e =
       settled

@@ -12,6 +12,7 @@ use lib.Ieee.{Float, fits}
 use Rattle.definitions.specs.declared.Position.{Position}
 use Rattle.definitions.specs.declared.Centering.{Centering}
 use Rattle.definitions.specs.declared.Centering.the-variants.{C}
+use Rattle.definitions.specs.declared.Verdict.the-variants.{Refused}
 use Rattle.definitions.specs.Lists.{Each, count, all}
 use Rattle.definitions.specs.Refusal.{Returns, Outcome, refused, precedence}
 use Rattle.definitions.specs.Matrix.{Matrix, det}
@@ -29,7 +30,7 @@ use Rattle.data_wyckoff.specs.Reader.{parse}
 use Rattle.data_wyckoff.specs.Reading.{unreadable-none}
 use Rattle.base_cell.specs.Labels.{labelsBy, labels-computed}
 use Rattle.base_cell.specs.Classes.{classes}
-use Rattle.designs.specs.Decide.{Decided, holds, fails, test, scan, refuses}
+use Rattle.definitions.specs.Checked.{holds, fails, verdictOf, checked, refused-with}
 use Rattle.designs.specs.Computed.{computed}
 use Rattle.designs.specs.Evaluate.{leaves}
 
@@ -125,7 +126,7 @@ tree =
 
 -- each of them holds
 pub worked : Each Holds starred
-unfolding Each Holds starred computed linear IsRound unitsOf scan test leaves isSome found fits
+unfolding Each Holds starred computed linear IsRound unitsOf leaves isSome found fits verdictOf
 worked = (
   (found (run 9 (linear C)) tt, refl, refl),
   (
@@ -137,17 +138,17 @@ worked = (
         (
           (tree, (tt, refl), tt, refl, refl),
           (
-            refuses NoAnswer (scan (textConditions two-terms) (holds (unreadable-none two-terms refl), tt) precedence) 6 refl,
+            refused-with (textConditions two-terms) NoAnswer 6 (checked (textConditions two-terms) (holds (unreadable-none two-terms refl), tt) (Refused 6) refl),
             (
-              refuses NoAnswer (scan (textConditions leading-plus) (holds (unreadable-none leading-plus refl), tt) precedence) 6 refl,
+              refused-with (textConditions leading-plus) NoAnswer 6 (checked (textConditions leading-plus) (holds (unreadable-none leading-plus refl), tt) (Refused 6) refl),
               (
                 (labels-computed 5 ((1 ∷ 0 ∷ 2 ∷ 4 ∷ 3 ∷ []) ∷ []) (siteMapping 5 2) tt tt, refl),
                 (
-                  refuses NoAnswer (scan (inverseConditions (0 ∷ 0 ∷ []) 2) (fails (λ t. t), (holds tt, (fails (λ t. t), tt))) precedence) 5 refl,
+                  refused-with (inverseConditions (0 ∷ 0 ∷ []) 2) NoAnswer 5 (checked (inverseConditions (0 ∷ 0 ∷ []) 2) (fails (λ t. t), (holds tt, (fails (λ t. t), tt))) (Refused 5) refl),
                   (
                     (found (run 9 diagonal231) tt, refl),
                     (
-                      (refl, refuses NoAnswer (scan (pointsConditions leaving 64) (fails (λ t. t), (fails (λ t. t), (leaves leaving, (fails (λ t. t), tt)))) precedence) 8 refl),
+                      (refl, refused-with (pointsConditions leaving 64) NoAnswer 8 (checked (pointsConditions leaving 64) (fails (λ t. t), (fails (λ t. t), (leaves leaving, (fails (λ t. t), tt)))) (Refused 8) refl)),
                       tt,
                     ),
                   ),
