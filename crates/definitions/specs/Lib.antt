@@ -1,15 +1,14 @@
 -- The definitions of document 01, in its order.
 pub mod Lists
 pub mod Refusal
-pub mod Checked
+pub mod Job
 pub mod Matrix
 pub mod Real
-pub mod Job
 pub mod Permutation
 pub mod Transformation
 pub mod Symmetrization
-pub mod Snf
 pub mod Centering
+pub mod Snf
 pub mod Cell
 pub mod Orbit
 pub mod Coordinates
@@ -18,5 +17,9 @@ pub mod Standardize
 pub mod Report
 pub mod Calls
 pub mod Demand
+
+-- Laws about them, which a reader of the definitions can leave out: from tests to a verdict, one run a matrix, the run found by running it, the centring vectors.
+pub mod Checked
 pub mod SnfLaws
 pub mod Evaluate
+pub mod CenteringLaws
