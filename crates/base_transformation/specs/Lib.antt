@@ -1,0 +1,5 @@
+pub mod Lists
+pub mod Residues
+pub mod Box
+pub mod Smith
+pub mod Points
