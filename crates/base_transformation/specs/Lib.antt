@@ -3,3 +3,4 @@ pub mod Residues
 pub mod Box
 pub mod Smith
 pub mod Points
+pub mod Covered

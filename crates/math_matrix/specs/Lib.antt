@@ -1,0 +1,5 @@
+pub mod Ring
+pub mod Solve
+pub mod Exprs
+pub mod Laws
+pub mod Bounds

@@ -1,0 +1,11 @@
+pub mod Steps
+pub mod Pivot
+pub mod Cases
+pub mod Stable
+pub mod Kept
+pub mod Entries
+pub mod Done
+pub mod Numbers
+pub mod Reduced
+pub mod Stages
+pub mod Runs

@@ -1,0 +1,1 @@
+// Theorems on the diagonalising run; they stand in specs/.
