@@ -1,10 +1,10 @@
 -- Every run of the diagonalisation of a C with a determinant has what `Smith` asks, so its points cover every translation once.
 use Prim.Native.Nat.{ℕ, _<_}
-use mathlib.Core.Path.{_≡_, refl}
+use mathlib.Core.Path.{_≡_}
 use native.Mathlib.Omega.{arith}
 use lib.ListN.{length, getD}
 use lib.Dec.{lit<}
-use lib.IntN.{ℤ, pos, natAbs}
+use lib.IntN.{ℤ, pos}
 use mathlib.Core.List.{[], _∷_}
 use Rattle.definitions.specs.Matrix.{Matrix, at, mat}
 use Rattle.definitions.specs.Snf.{Run, points}

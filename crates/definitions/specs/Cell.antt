@@ -1,7 +1,7 @@
 -- "The listed sites of primitive site i fill a run beginning at i × |det C|": place, position, point, primitive site.
-use Prim.Native.Nat.{ℕ, _*_}
-use mathlib.Core.List.{List, [], _∷_, map}
-use lib.ListN.{length, replicate}
+use Prim.Native.Nat.{ℕ}
+use mathlib.Core.List.{List, map}
+use lib.ListN.{replicate}
 use lib.IntN.{ℤ, natAbs}
 use lib.Ieee.{Float, binary64, rem}
 use Rattle.definitions.specs.declared.Position.{Position}

@@ -1,5 +1,5 @@
 -- "Centrings: the seven matrices of `Centering::linear`", and the centring vectors of International Tables A, a table of its own.
-use Prim.Native.Nat.{ℕ, zero, suc, _+_, _-_, _*_, _%_}
+use Prim.Native.Nat.{ℕ, suc, _-_, _*_, _%_}
 use mathlib.Core.Bool.{Bool, _&&_}
 use mathlib.Core.List.{List, [], _∷_, map}
 use lib.ListN.{length}

@@ -1,6 +1,5 @@
 -- "For each, C⁻¹ times its points, taken as whole numbers over det C, gives modulo 1 just the centring vectors of International Tables A (R obverse), each once."
-use mathlib.Core.Path.{_≡_, refl, subst}
-use mathlib.Core.Bool.{Bool, true, false}
+use mathlib.Core.Path.{subst}
 use mathlib.Core.Option.{Option, none, some}
 use lib.Dec.{T}
 use Rattle.definitions.specs.declared.Centering.{Centering}

@@ -1,13 +1,13 @@
 -- From tests to a verdict, for any conditions: what the tests found of each, and the first number in the order of precedence that applies.
 -- A call tests in that order and returns at once, so a condition behind the one that holds may be untested.
 use Prim.Native.Nat.{ℕ}
-use mathlib.Core.Path.{_≡_, refl, sym, subst}
+use mathlib.Core.Path.{_≡_, sym, subst}
 use mathlib.Core.Bool.{Bool, true, false}
 use mathlib.Core.List.{List, [], _∷_}
 use mathlib.Core.Option.{Option, none, some}
 use mathlib.Core.Logic.{_⊎_, inl, inr, ⊎-elim}
 use lib.Dec.{T, eqb, eqb-refl, eqb→eq}
-use Rattle.definitions.specs.Refusal.{Condition, Checked, Past, Applies, NoneOf, upto, precedence, Outcome, accepted, refused, Returns, outcomeOf}
+use Rattle.definitions.specs.Refusal.{Condition, Checked, Applies, NoneOf, upto, precedence, accepted, refused, Returns}
 use Rattle.definitions.specs.declared.Verdict.{Verdict}
 use Rattle.definitions.specs.declared.Verdict.the-variants.{Accepted, Refused}
 

@@ -5,7 +5,6 @@ use mathlib.Core.List.{List, [], _∷_, List·Memᴰ}
 use mathlib.Core.Logic.{_↔_, _⊎_}
 use lib.ListN.{getD, length}
 use lib.IntN.{ℤ}
-use Rattle.definitions.specs.declared.Position.{Position}
 use Rattle.definitions.specs.Refusal.{Condition, Past, orbit-fit, Outcome, accepted, refused}
 use Rattle.definitions.specs.Matrix.{Matrix, apply, subV}
 use Rattle.definitions.specs.Real.{origin}
@@ -16,7 +15,7 @@ use Rattle.definitions.specs.Cell.{copies, listedPosition}
 use Rattle.definitions.specs.Symmetrization.{primitivePositions}
 use Rattle.definitions.specs.Job.{Job}
 use Rattle.definitions.specs.Wyckoff.{Lettering, Found, Unfit, sitesOf, letters}
-use Rattle.definitions.specs.Standardize.{siteCount, Work, NoFit, letteringOf, Answer, answerOf}
+use Rattle.definitions.specs.Standardize.{siteCount, Work, letteringOf, Answer, answerOf}
 
 -- ---- calls
 

@@ -1,13 +1,13 @@
 -- "The job": its parts, and their bytes. Operands are little-endian, commands one ASCII byte.
-use Prim.Native.Nat.{ℕ, zero, suc, _+_, _-_, _*_, _/_, _%_, _^_, _≤_, _<_}
+use Prim.Native.Nat.{ℕ, zero, suc, _+_, _-_, _*_, _/_, _%_, _^_, _<_}
 use mathlib.Core.Path.{_≡_}
-use mathlib.Core.Bool.{Bool, true, false, _&&_}
+use mathlib.Core.Bool.{Bool, _&&_}
 use mathlib.Core.List.{List, [], _∷_, _++_, map}
 use mathlib.Core.Logic.{_⊎_}
 use lib.ListN.{getD, length}
-use lib.Dec.{T, leb, ltb, eqb}
+use lib.Dec.{T, ltb, eqb}
 use lib.IntN.{ℤ, pos, negsuc}
-use lib.Ieee.{Float, nan, binary64, ofBits}
+use lib.Ieee.{Float, binary64, ofBits}
 use Rattle.definitions.specs.declared.Position.{Position}
 use Rattle.definitions.specs.Lists.{all, each}
 use Rattle.definitions.specs.Matrix.{Matrix, mat}

@@ -1,8 +1,7 @@
 -- "Label: the first listed site whose primitive site is joined by the aligned permutations, taken either way and in any number of steps, none included."
-use Prim.Native.Nat.{ℕ, _≤_, _<_}
+use Prim.Native.Nat.{ℕ, _<_}
 use mathlib.Core.Path.{_≡_}
-use mathlib.Core.Bool.{Bool}
-use mathlib.Core.List.{List, [], _∷_, map, List·Memᴰ}
+use mathlib.Core.List.{List, map, List·Memᴰ}
 use lib.ListN.{getD, length}
 use lib.Dec.{eqb}
 use Rattle.definitions.specs.Lists.{count, those, upTo}

@@ -1,13 +1,13 @@
 -- "Arithmetic that replaces nalgebra": binary64 of the kit's IEEE 754 account, bit for bit. `≡` tells -0 from +0.
 use Prim.Native.Nat.{ℕ, zero, suc, _+_, _-_, _*_, _/_, _%_, _^_, _≤_, _<_}
 use mathlib.Core.Path.{_≡_}
-use mathlib.Core.Bool.{Bool, true, false, _&&_, not, cond}
-use mathlib.Core.List.{List, [], _∷_, map, foldl}
+use mathlib.Core.Bool.{Bool, true, false, _&&_, cond}
+use mathlib.Core.List.{List, [], _∷_, foldl}
 use mathlib.Core.Option.{Option, none, some}
-use lib.ListN.{getD, length}
-use lib.Dec.{T, leb, ltb, eqb}
-use lib.IntN.{ℤ, pos}
-use lib.Ieee.{Float, nan, inf, fin, binary64, up, down, size, round, neg, add, sub, mul, div, rem, lt, eq, ofInt, ofBits, toBits, fits}
+use lib.ListN.{getD}
+use lib.Dec.{T, leb}
+use lib.IntN.{ℤ}
+use lib.Ieee.{Float, nan, inf, fin, binary64, up, down, size, round, add, sub, mul, div, lt, ofInt, ofBits, toBits, fits}
 use Rattle.definitions.specs.declared.Position.{Position}
 use Rattle.definitions.specs.Matrix.{Matrix, at, mat, cofactor, det, next, after}
 

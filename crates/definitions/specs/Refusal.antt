@@ -1,10 +1,10 @@
 -- "A call returns an accepted answer, or one number and nothing else." The one place of the numbers, and of the order in which they are checked.
 use Prim.Native.Nat.{ℕ, _-_}
-use mathlib.Core.Bool.{Bool, true, false}
+use mathlib.Core.Bool.{true, false}
 use mathlib.Core.Path.{_≡_}
 use mathlib.Core.List.{List, [], _∷_, _++_}
-use mathlib.Core.Logic.{_⊎_, inl, inr}
-use lib.Dec.{T, eqb}
+use mathlib.Core.Logic.{_⊎_}
+use lib.Dec.{eqb}
 use lib.ListN.{length, replicate}
 use Rattle.definitions.specs.declared.Verdict.{Verdict}
 use Rattle.definitions.specs.declared.Verdict.the-variants.{Accepted, Refused}

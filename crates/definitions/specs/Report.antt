@@ -1,6 +1,6 @@
 -- The report program's text: "`refused K`, or a header (listed sites, then orbits; ..) and one line a listed site: site, primitive site, label, multiplicity, letter".
 use Prim.Native.Nat.{ℕ, zero, suc, _+_, _/_, _%_}
-use mathlib.Core.Bool.{Bool, true, false}
+use mathlib.Core.Bool.{true, false}
 use mathlib.Core.List.{List, [], _∷_, _++_}
 use lib.ListN.{getD}
 use lib.Dec.{ltb}

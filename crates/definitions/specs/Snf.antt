@@ -1,15 +1,14 @@
 -- "Diagonalise (`SNF::new`): LCR = D, pivot of least magnitude, first in row order", stage by stage and pass by pass.
-use Prim.Native.Nat.{ℕ, zero, suc, _+_, _<_}
-use mathlib.Core.Path.{_≡_, refl}
-use mathlib.Core.Bool.{Bool, true, false, _&&_, not, cond}
+use Prim.Native.Nat.{ℕ, zero, suc}
+use mathlib.Core.Path.{_≡_}
+use mathlib.Core.Bool.{Bool, true, false, not, cond}
 use mathlib.Core.List.{List, [], _∷_, _++_, map}
 use mathlib.Core.Option.{Option, none, some}
-use lib.ListN.{getD, length}
-use lib.Dec.{T, leb, ltb, eqb}
+use lib.Dec.{T, leb, eqb}
 use lib.IntN.{ℤ, pos, negsuc, negℤ, natAbs, _-ℤ_, _*ℤ_}
 use lib.Signed.{quotZ}
-use Rattle.definitions.specs.Lists.{all, any, each, upTo}
-use Rattle.definitions.specs.Matrix.{Matrix, at, mat, item, three, identity, inverse, apply}
+use Rattle.definitions.specs.Lists.{all, each, upTo}
+use Rattle.definitions.specs.Matrix.{Matrix, at, mat, three, identity, inverse, apply}
 
 -- D, L and R as they stand
 pub record State : Type 0 where

@@ -1,17 +1,17 @@
 -- Laws about runs that readers of the definitions want: a matrix has one run at the most.
 use Prim.Native.Nat.{ℕ}
 use mathlib.Core.Path.{_≡_, refl, sym, ap, ap₂, _∙_, subst}
-use mathlib.Core.Bool.{Bool, true, false, not, false≢true}
+use mathlib.Core.Bool.{Bool, true, false, false≢true}
 use mathlib.Core.List.{List, [], _∷_, _++_}
 use mathlib.Core.Option.{Option, none, some, Option·none-ne-some, Option·some-injective}
 use lib.IntN.{ℤ}
 use lib.Dec.{T, T-not}
 use Rattle.definitions.specs.Lists.{all, each}
 use Rattle.definitions.specs.Matrix.{Matrix}
-use Rattle.definitions.specs.Snf.{State, Place, pivot, pass, Stage, empty, last, again, start, Run, allAssigned, small, Leaves}
+use Rattle.definitions.specs.Snf.{State, Place, pass, Stage, empty, last, again, Run, allAssigned, small, Leaves}
 
 -- two ways through a stage agree in what was assigned and in the end
-abbrev Agree : List (List ℤ) → State → List (List ℤ) → State → Type 0
+abbrev pub Agree : List (List ℤ) → State → List (List ℤ) → State → Type 0
 Agree a u b v = (a ≡ b) × (u ≡ v)
 
 no-and-some : {A : Type 0} {o : Option Place} (p : Place) → o ≡ none → o ≡ some p → A
@@ -43,24 +43,27 @@ stage-unique {s} {t} (again p e h r) (again {u = w} {rest = c} q f g r′) =
 from : {s : ℕ} {t t′ u v : State} {a b : List (List ℤ)} → t ≡ t′ → Stage s t a u → Stage s t′ b v → Agree a u b v
 from {s} {v = v} {b = b} e r r′ = stage-unique r (subst (λ z. Stage s z b v) (sym e) r′)
 
+-- two runs agree in every state and in every list of assigned entries
+pub record SameRun {m : Matrix} (r r′ : Run m) : Type 0 where
+  pub first : Agree (r .assigned₀) (r .first) (r′ .assigned₀) (r′ .first)
+  pub second : Agree (r .assigned₁) (r .second) (r′ .assigned₁) (r′ .second)
+  pub third : Agree (r .assigned₂) (r .third) (r′ .assigned₂) (r′ .third)
+
 module _ {m : Matrix} (r r′ : Run m) where
-  first-agree : Agree (r .assigned₀) (r .first) (r′ .assigned₀) (r′ .first)
-  first-agree = stage-unique (r .stage₀) (r′ .stage₀)
-
-  second-agree : Agree (r .assigned₁) (r .second) (r′ .assigned₁) (r′ .second)
-  second-agree = from (first-agree .1) (r .stage₁) (r′ .stage₁)
-
-  third-agree : Agree (r .assigned₂) (r .third) (r′ .assigned₂) (r′ .third)
-  third-agree = from (second-agree .1) (r .stage₂) (r′ .stage₂)
+  pub same-run : SameRun r r′
+  same-run =
+      let a = stage-unique (r .stage₀) (r′ .stage₀) in
+      let b = from (a .1) (r .stage₁) (r′ .stage₁) in
+      record { first = a; second = b; third = from (b .1) (r .stage₂) (r′ .stage₂) }
 
   -- the same D, L and R
   pub run-unique : r .third ≡ r′ .third
-  run-unique = third-agree .1
+  run-unique = same-run .third .1
 
   -- the same assigned entries
   pub assigned-unique : allAssigned r ≡ allAssigned r′
   assigned-unique =
-      ap₂ (λ x y. each (λ a. a) (x ++ y)) (ap₂ (λ x y. x ++ y) (first-agree .0) (second-agree .0)) (third-agree .0)
+      ap₂ (λ x y. each (λ a. a) (x ++ y)) (ap₂ (λ x y. x ++ y) (same-run .first .0) (same-run .second .0)) (same-run .third .0)
 
 -- refusal 8 does not apply where one run's entries are all in range
 pub stays : {m : Matrix} (r : Run m) → T (all small (allAssigned r)) → Leaves m → ⊥

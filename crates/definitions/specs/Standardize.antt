@@ -1,23 +1,23 @@
 -- The whole answer to a job: the refusals with their conditions, or the lists (moyo's symmetrize/standardize.rs).
-use Prim.Native.Nat.{ℕ, _*_, _<_}
+use Prim.Native.Nat.{ℕ, _*_}
 use mathlib.Core.Path.{_≡_}
-use mathlib.Core.Bool.{Bool, true, false, not, _&&_, _||_}
-use mathlib.Core.List.{List, [], _∷_, _++_, map}
+use mathlib.Core.Bool.{Bool, false, not, _&&_, _||_}
+use mathlib.Core.List.{List, [], _∷_, map}
 use mathlib.Core.Logic.{_⊎_}
 use lib.ListN.{length}
 use lib.Dec.{T, leb, ltb, eqb}
 use lib.IntN.{ℤ, pos, natAbs}
-use lib.Ieee.{Float, nan, inf, fin, binary64, lt, le}
+use lib.Ieee.{Float, nan, inf, fin, lt, le}
 use Rattle.definitions.specs.declared.Position.{Position}
 use Rattle.definitions.specs.Lists.{all, any, Some, upTo}
-use Rattle.definitions.specs.Refusal.{Condition, _when_, job-bytes, counts, matrix-entry, float-range, site-image, coordinates, determinant, diagonalisation, listed-sites, buffer, target-rotation, lattice, orbit-fit, Outcome, accepted, refused, Returns, Past, PastAll}
+use Rattle.definitions.specs.Refusal.{Condition, _when_, job-bytes, counts, matrix-entry, float-range, site-image, coordinates, determinant, diagonalisation, listed-sites, buffer, target-rotation, lattice, orbit-fit, Outcome, Returns}
 use Rattle.definitions.specs.Matrix.{Matrix, det}
-use Rattle.definitions.specs.Real.{RealMatrix, zeroF, realOf, isFinite}
-use Rattle.definitions.specs.Job.{Parts, Job, Site, Operation, Candidate, IsJob, NoJob, jobOf}
+use Rattle.definitions.specs.Real.{zeroF, realOf, isFinite}
+use Rattle.definitions.specs.Job.{Parts, Job, Candidate, IsJob, NoJob, jobOf}
 use Rattle.definitions.specs.Permutation.{isPermutation, permutationAt}
 use Rattle.definitions.specs.Transformation.{targetAbsent, aligned}
 use Rattle.definitions.specs.Symmetrization.{primitivePositions, latticeFails, oldBasis, listedBasis}
-use Rattle.definitions.specs.Snf.{State, Run, Leaves, points}
+use Rattle.definitions.specs.Snf.{Run, Leaves, points}
 use Rattle.definitions.specs.Cell.{copies, listedPositions, listedPoints, siteMapping}
 use Rattle.definitions.specs.Orbit.{multiplicities, orbits}
 use Rattle.definitions.specs.Coordinates.{Triplet, Reads, Readable, rows}

@@ -1,12 +1,12 @@
 -- "Symmetrise" and "Lattice" (moyo's symmetrize/symmetrization.rs).
-use Prim.Native.Nat.{ℕ, zero, suc}
-use mathlib.Core.Bool.{Bool, true, false, not, _&&_, _||_, cond}
+use Prim.Native.Nat.{ℕ}
+use mathlib.Core.Bool.{Bool, true, not, _&&_, _||_, cond}
 use mathlib.Core.List.{List, [], _∷_, map}
 use mathlib.Core.Option.{Option, none, some}
 use lib.ListN.{getD, length}
 use lib.Dec.{eqb}
 use lib.IntN.{pos}
-use lib.Ieee.{Float, nan, binary64, neg, sub, div, lt, eq}
+use lib.Ieee.{Float, binary64, neg, sub, div, lt, eq}
 use Rattle.definitions.specs.declared.Position.{Position}
 use Rattle.definitions.specs.Lists.{all, upTo}
 use Rattle.definitions.specs.Matrix.{Matrix, mat}

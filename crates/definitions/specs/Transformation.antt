@@ -1,17 +1,17 @@
 -- "Align (`align_primitive_permutations`)" and the positions in the selected primitive basis.
-use Prim.Native.Nat.{ℕ, zero, suc, _*_}
+use Prim.Native.Nat.{ℕ}
 use mathlib.Core.Bool.{Bool, true, false, _&&_}
-use mathlib.Core.List.{List, [], _∷_, map, reverse}
+use mathlib.Core.List.{List, [], map, reverse}
 use mathlib.Core.Option.{Option, none, some}
 use lib.ListN.{getD, length}
 use lib.Dec.{eqb}
 use lib.IntN.{ℤ, pos, negsuc}
 use Rattle.definitions.specs.declared.Position.{Position}
-use Rattle.definitions.specs.Lists.{any, all, first, upTo}
-use Rattle.definitions.specs.Matrix.{Matrix, at, mat, mulM, inverse}
+use Rattle.definitions.specs.Lists.{any, first, upTo}
+use Rattle.definitions.specs.Matrix.{Matrix, at, mulM, inverse}
 use Rattle.definitions.specs.Real.{real, applyF, subP}
 use Rattle.definitions.specs.Permutation.{permutationAt}
-use Rattle.definitions.specs.Job.{Job, Operation, Site}
+use Rattle.definitions.specs.Job.{Job, Operation}
 
 -- "rotation R becomes T⁻¹RT"
 abbrev pub transformRotation : Matrix → Matrix → Matrix

@@ -11,12 +11,12 @@ use lib.ListN.{length}
 use lib.Pow.{areBytes}
 use lib.Dec.{T, leb, ltb, leb→le}
 use lib.IntN.{ℤ}
-use Rattle.definitions.specs.Lists.{Some, all, any, those}
+use Rattle.definitions.specs.Lists.{Some, all}
 use Rattle.definitions.specs.Refusal.{_when_, Applies, NoneOf, precedence, Outcome, accepted, refused, Returns, job-bytes, upto}
 use Rattle.definitions.specs.Matrix.{Matrix}
 use Rattle.definitions.specs.Snf.{Run, allAssigned, small, Leaves, points}
 use Rattle.definitions.specs.SnfLaws.{run-unique, stays}
-use Rattle.definitions.specs.Evaluate.{run, stage}
+use Rattle.definitions.specs.Evaluate.{run}
 use Rattle.definitions.specs.Coordinates.{Triplet, Reads, Readable, spaceless, inRange, rows, originOf}
 use Rattle.definitions.specs.Job.{Parts, Job, Candidate, IsJob, NoJob, jobOf}
 use Rattle.definitions.specs.Permutation.{isPermutation}

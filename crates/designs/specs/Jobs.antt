@@ -2,7 +2,7 @@
 use Prim.Native.Nat.{ℕ}
 use mathlib.Core.Path.{refl}
 use mathlib.Core.List.{List, [], _∷_}
-use lib.IntN.{ℤ, pos, negsuc}
+use lib.IntN.{pos}
 use Rattle.definitions.specs.Refusal.{Outcome, accepted, refused}
 use Rattle.definitions.specs.Job.{float}
 use Rattle.definitions.specs.Standardize.{Answer, BytesReturn}

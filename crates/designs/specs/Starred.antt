@@ -1,10 +1,9 @@
 -- "Worked designs (starred: proved)": one table, and one proof over it.
 use Prim.Native.Nat.{ℕ}
 use mathlib.Core.Path.{_≡_, refl}
-use mathlib.Core.Bool.{Bool, true, false, not, _||_}
+use mathlib.Core.Bool.{Bool, true, false}
 use mathlib.Core.List.{List, [], _∷_, _++_, map}
 use mathlib.Core.Option.{Option, none, some}
-use mathlib.Core.Logic.{_⊎_}
 use lib.ListN.{getD, length, replicate}
 use lib.Dec.{T, eqb, lit<, lit≤}
 use lib.IntN.{ℤ, pos, negsuc}
@@ -13,23 +12,20 @@ use Rattle.definitions.specs.declared.Position.{Position}
 use Rattle.definitions.specs.declared.Centering.{Centering}
 use Rattle.definitions.specs.declared.Centering.the-variants.{C}
 use Rattle.definitions.specs.declared.Verdict.the-variants.{Refused}
-use Rattle.definitions.specs.Lists.{Each, count, all}
-use Rattle.definitions.specs.Refusal.{Returns, Outcome, refused, precedence}
+use Rattle.definitions.specs.Lists.{Each, count}
+use Rattle.definitions.specs.Refusal.{Returns, refused}
 use Rattle.definitions.specs.Matrix.{Matrix, det}
-use Rattle.definitions.specs.Real.{origin, roundAway, IsRound, NearestWhole, unitsOf}
-use Rattle.definitions.specs.Snf.{State, Run, Leaves, points, diagonal}
+use Rattle.definitions.specs.Real.{origin, roundAway, IsRound, unitsOf}
+use Rattle.definitions.specs.Snf.{Run, points, diagonal}
 use Rattle.definitions.specs.Evaluate.{run}
 use Rattle.definitions.specs.Centering.{linear}
 use Rattle.definitions.specs.Cell.{listedPositions, siteMapping}
 use Rattle.definitions.specs.Orbit.{Labels, orbits}
-use Rattle.definitions.specs.Coordinates.{Triplet, x, axis, times, whole, fraction, plus, minus, Reads, rows, originOf, inRange, print, isTriplet}
+use Rattle.definitions.specs.Coordinates.{Triplet, x, axis, times, whole, fraction, plus, minus, Reads, rows, originOf, inRange}
 use Rattle.definitions.specs.Job.{float}
 use Rattle.definitions.specs.Calls.{textConditions, inverseConditions, pointsConditions}
-use Rattle.definitions.specs.Lists.{those}
-use Rattle.data_wyckoff.specs.Reader.{parse}
 use Rattle.data_wyckoff.specs.Reading.{unreadable-none}
-use Rattle.base_cell.specs.Labels.{labelsBy, labels-computed}
-use Rattle.base_cell.specs.Classes.{classes}
+use Rattle.base_cell.specs.Labels.{labels-computed}
 use Rattle.definitions.specs.Checked.{holds, fails, verdictOf, checked, refused-with}
 use Rattle.designs.specs.Computed.{computed}
 use Rattle.designs.specs.Evaluate.{leaves}

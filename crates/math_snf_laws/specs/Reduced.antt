@@ -9,7 +9,7 @@ use lib.IntN.{ℤ, pos, negℤ, natAbs, _-ℤ_, _*ℤ_, pos-ne-negsuc}
 use lib.Signed.{quotZ}
 use borrow.Author.Tests.{ne-eqb, eq-eqb, leb-true, leb-false}
 use Rattle.definitions.specs.Matrix.{Matrix, at}
-use Rattle.definitions.specs.Snf.{State, Place, Pass, sizeAt, pivot, swapped, swapRows, negateColumn, moved, signed, clearRow, clearColumn, cleared, pass}
+use Rattle.definitions.specs.Snf.{State, Place, Pass, sizeAt, swapped, swapRows, negateColumn, moved, signed, clearRow, clearColumn, cleared, pass}
 use Rattle.math_matrix.specs.Bounds.{abs-neg}
 use Rattle.math_snf_laws.specs.Steps.{In, i00, i01, i02, i11, i22, self, wide, in-le, Behind, b01, b02, b12, behind-in, behind-lt}
 use Rattle.math_snf_laws.specs.Pivot.{Big, Chosen}

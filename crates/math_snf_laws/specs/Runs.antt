@@ -1,6 +1,6 @@
 -- Every run of the diagonalisation: L M R = D with L and R of determinant 1 or -1, D diagonal and not below 0; there is one run and no other, and its stages are short.
 use Prim.Native.Nat.{ℕ, zero, suc, _*_, _<_, _≤_}
-use mathlib.Core.Path.{_≡_, refl, sym, ap, _∙_, subst}
+use mathlib.Core.Path.{_≡_, refl, sym, ap, _∙_}
 use mathlib.Core.Bool.{cond}
 use mathlib.Core.List.{List, [], _∷_}
 use native.Mathlib.Omega.{arith}
@@ -9,7 +9,7 @@ use lib.ListN.{length}
 use lib.IntN.{ℤ, pos, natAbs, _*ℤ_}
 use lib.Signed.{nonNeg, pos-natAbs}
 use Rattle.definitions.specs.Matrix.{Matrix, at, mulM, det}
-use Rattle.definitions.specs.Snf.{State, pivot, Stage, start, Run}
+use Rattle.definitions.specs.Snf.{State, pivot, start, Run}
 use Rattle.math_matrix.specs.Solve.{Expr, var, con, _⊗_, eval, solve}
 use Rattle.math_matrix.specs.Exprs.{entriesE, detE}
 use Rattle.math_matrix.specs.Laws.{Three, det-mul}
@@ -18,7 +18,7 @@ use Rattle.math_snf_laws.specs.Steps.{In, i00, i01, i02, i11, i22, in-le
 use Rattle.math_snf_laws.specs.Stable.{Stable, stable-stage}
 use Rattle.math_snf_laws.specs.Kept.{Kept, kept, kept-start}
 use Rattle.math_snf_laws.specs.Done.{Done, done-none}
-use Rattle.math_snf_laws.specs.Stages.{done-stage, most, stage-passes, stage-found, stage-unique}
+use Rattle.math_snf_laws.specs.Stages.{done-stage, most, stage-passes, stage-found}
 
 -- what the steps of every stage keep, a run keeps
 pub stable-run : (Q : State → Type 0) {m : Matrix} → ((s : ℕ) → Stable s Q) → (r : Run m) → Q (start m) → Q (r .third)
@@ -116,18 +116,3 @@ every m =
     let b = stage-found i11 (a .1) in
     let c = stage-found i22 (b .1) in
     record { first = a .1; second = b .1; third = c .1; assigned₀ = a .0; assigned₁ = b .0; assigned₂ = c .0; stage₀ = a .2; stage₁ = b .2; stage₂ = c .2 }
-
-pub record SameRun {m : Matrix} (r r′ : Run m) : Type 0 where
-  pub first : r .first ≡ r′ .first
-  pub second : r .second ≡ r′ .second
-  pub third : r .third ≡ r′ .third
-  pub assigned₀ : r .assigned₀ ≡ r′ .assigned₀
-  pub assigned₁ : r .assigned₁ ≡ r′ .assigned₁
-  pub assigned₂ : r .assigned₂ ≡ r′ .assigned₂
-
-pub unique : {m : Matrix} (r r′ : Run m) → SameRun r r′
-unique r r′ =
-    let a = stage-unique (r .stage₀) (r′ .stage₀) in
-    let b = stage-unique (r .stage₁) (subst (λ (t : State). Stage 1 t (r′ .assigned₁) (r′ .second)) (sym (a .1)) (r′ .stage₁)) in
-    let c = stage-unique (r .stage₂) (subst (λ (t : State). Stage 2 t (r′ .assigned₂) (r′ .third)) (sym (b .1)) (r′ .stage₂)) in
-    record { first = a .1; second = b .1; third = c .1; assigned₀ = a .0; assigned₁ = b .0; assigned₂ = c .0 }

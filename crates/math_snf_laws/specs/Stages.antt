@@ -1,8 +1,8 @@
 -- A stage clears its row and column, ends, and can go one way only.
 use Prim.Native.Nat.{ℕ, zero, suc, _<_, _≤_}
-use mathlib.Core.Path.{_≡_, refl, sym, ap, _∙_, subst}
+use mathlib.Core.Path.{_≡_, refl, sym, subst}
 use mathlib.Core.Bool.{Bool, true, false}
-use mathlib.Core.List.{List, [], _∷_}
+use mathlib.Core.List.{List}
 use mathlib.Core.Option.{Option, none, some}
 use native.Mathlib.Omega.{arith}
 use native.Mathlib.Nat.{le-trans, le-of-suc-le-suc}
@@ -88,27 +88,3 @@ find {s} (suc n) i t h = at-pivot i t h (λ m l u b. find n i u (λ p e f. le-tr
 
 pub stage-found : {s : ℕ} → In s s → (t : State) → (a : List (List ℤ)) × (u : State) × Stage s t a u
 stage-found {s} i t = find (most (t .d) (pivot s (t .d))) i t (λ p e f. rw e (omega arith))
-
-place-eq : {o : Option Place} {p q : Place} → o ≡ some p → o ≡ some q → p ≡ q
-place-eq e f = cc
-
-no-place : {A : Type 0} {o : Option Place} {p : Place} → o ≡ none → o ≡ some p → A
-no-place e f = let z : _≡_ {A = ℕ} 0 1 = cc in absurd (omega arith)
-
-not-both : {A : Type 0} {b : Bool} → b ≡ true → b ≡ false → A
-not-both e f = let z : _≡_ {A = ℕ} 0 1 = cc in absurd (omega arith)
-
-pub stage-unique : {s : ℕ} {t u v : State} {a b : List (List ℤ)} → Stage s t a u → Stage s t b v → (a ≡ b) × (u ≡ v)
-stage-unique (empty e) (empty f) = (refl, refl)
-stage-unique (empty e) (last q f k) = no-place e f
-stage-unique (empty e) (again q f k r) = no-place e f
-stage-unique (last p e h) (empty f) = no-place f e
-stage-unique {s} (last {t = t} p e h) (last q f k) =
-    (ap (λ (x : Place). pass s x t .assigned ∷ []) (place-eq e f), ap (λ (x : Place). pass s x t .state) (place-eq e f))
-stage-unique {s} (last {t = t} p e h) (again q f k r) = not-both k (sym (ap (λ (x : Place). pass s x t .updated) (place-eq e f)) ∙ h)
-stage-unique (again p e h r) (empty f) = no-place f e
-stage-unique {s} (again {t = t} p e h r) (last q f k) = not-both h (ap (λ (x : Place). pass s x t .updated) (place-eq e f) ∙ k)
-stage-unique {s} (again {t = t} {rest = c} p e h r) (again {u = v} {rest = b} q f k o) =
-    let g = place-eq e f in
-    let m = stage-unique r (subst (λ (x : Place). Stage s (pass s x t .state) b v) (sym g) o) in
-    (ap (λ (x : Place). pass s x t .assigned ∷ c) g ∙ ap (λ (x : List (List ℤ)). pass s q t .assigned ∷ x) (m .0), m .1)

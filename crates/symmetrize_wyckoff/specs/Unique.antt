@@ -1,13 +1,12 @@
 -- What is found of a design has one value at the most: the spaces of its candidates, its labels, and so its sites with their fits.
 use Prim.Native.Nat.{ℕ}
-use mathlib.Core.Path.{_≡_, refl, sym, ap, ap₂, _∙_, subst, pathJ}
+use mathlib.Core.Path.{_≡_, refl, sym, ap, ap₂, _∙_, pathJ}
 use mathlib.Core.List.{List, [], _∷_}
-use Rattle.definitions.specs.Snf.{State, Run}
+use Rattle.definitions.specs.Snf.{Run}
 use Rattle.definitions.specs.SnfLaws.{run-unique}
-use Rattle.definitions.specs.Coordinates.{Triplet, Reads, rows, originOf}
-use Rattle.definitions.specs.Job.{Job, Candidate}
-use Rattle.definitions.specs.Orbit.{Labels}
-use Rattle.definitions.specs.Wyckoff.{Space, IsSpace, AreSpaces, Lettering, Found, Sites, sitesOf, choices}
+use Rattle.definitions.specs.Coordinates.{Triplet, rows, originOf}
+use Rattle.definitions.specs.Job.{Candidate}
+use Rattle.definitions.specs.Wyckoff.{Space, IsSpace, AreSpaces, Lettering, Found, sitesOf, choices}
 use Rattle.data_wyckoff.specs.Reading.{read-unique}
 use Rattle.base_cell.specs.Labels.{labels-unique}
 

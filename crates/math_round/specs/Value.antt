@@ -1,0 +1,104 @@
+-- `roundAway` depends on a float's value alone; what it is of a whole number, of a fraction of some places, and below a half.
+use Prim.Native.Nat.{ℕ, zero, suc, _+_, _*_, _-_, _/_, _%_, _^_, _≤_, _<_, compare}
+use mathlib.Core.Path.{_≡_, refl, sym, ap, _∙_, subst}
+use mathlib.Core.Bool.{Bool, true, false, cond}
+use native.Mathlib.Omega.{arith}
+use native.Mathlib.Nat.{mul-pos, mul-one, mul-le-mul, le-of-suc-le-suc, div-eq-of-lt, div-lt-iff-lt-mul}
+use lib.Dec.{T, ltb}
+use lib.Pow.{pow-add, pow-pos, shl-lt}
+use lib.Ieee.{Float, nan, inf, fin, binary64, up, down, size, nearest, round, odd, units, neg, fits, low}
+use lib.Ieee.Fits.{down-pos, round-is, round-fits}
+use lib.Ieee.Exact.{HasValue, round-exact}
+use lib.Ieee.Back.{whole-unique}
+use lib.Ieee.Nearest.{div-same}
+use Rattle.definitions.specs.Real.{roundAway}
+
+cross : (M D a c : ℕ) → M * c ≡ a * D → (2 * M + D) * (2 * c) ≡ (2 * a + c) * (2 * D)
+cross M D a c h = omega arith
+
+pub roundAway-by-value : (x : Float) (s : Bool) (a c : ℕ) → 0 < c → HasValue x s a c → roundAway x ≡ round binary64 s ((2 * a + c) / (2 * c)) 1
+unfolding roundAway
+roundAway-by-value nan s a c p h = absurd h
+roundAway-by-value (inf t) s a c p h = absurd h
+roundAway-by-value (fin t m e) s a c p h =
+    rw (
+      h .0,
+      div-same (2 * (m * up e) + down e) (2 * down e) (2 * a + c) (2 * c) (omega (arith, down-pos e)) (omega arith) (cross (m * up e) (down e) a c (h .1)),
+    )
+
+-- the whole number nearest to d / 2 ^ s, a half up
+abbrev pub nearestPart : ℕ → ℕ → ℕ
+nearestPart d s = (2 * d + 2 ^ s) / (2 * 2 ^ s)
+
+pub nearestPart-le : (d s b : ℕ) → d ≤ b → nearestPart d s ≤ b
+nearestPart-le d s b h =
+    le-of-suc-le-suc (div-lt-iff-lt-mul {k = 2 * 2 ^ s} {x = 2 * d + 2 ^ s} {y = suc b} (omega (arith, pow-pos s)) .1 (room (2 ^ s) (pow-pos s)))
+  where
+    room : (p : ℕ) → 0 < p → 2 * d + p < suc b * (2 * p)
+    room p o = omega (arith, mul-le-mul h o)
+
+-- a common factor of the digits and the places goes out
+same-cut : (d A P : ℕ) → 0 < A → 0 < P → (2 * (d * A) + A * P) / (2 * (A * P)) ≡ (2 * d + P) / (2 * P)
+same-cut d A P a p =
+    div-same (2 * (d * A) + A * P) (2 * (A * P)) (2 * d + P) (2 * P) (omega (arith, mul-pos a p)) (omega arith) (eq d A P)
+  where
+    eq : (d A P : ℕ) → (2 * (d * A) + A * P) * (2 * P) ≡ (2 * d + P) * (2 * (A * P))
+    eq d A P = omega arith
+
+cut : (d x s l : ℕ) → x + s ≡ l → nearestPart (d * 2 ^ x) l ≡ nearestPart d s
+cut d x s l h = rw (← h, pow-add 2 x s) (same-cut d (2 ^ x) (2 ^ s) (pow-pos x) (pow-pos s))
+
+-- a float of s binary places: the nearest whole number is had by one division
+pub roundAway-of-fraction : (v : Float) (g : Bool) (d x s : ℕ) → HasValue v g (d * 2 ^ x) (2 ^ 1074) → x + s ≡ 1074
+    → roundAway v ≡ round binary64 g (nearestPart d s) 1
+roundAway-of-fraction v g d x s h e =
+    roundAway-by-value v g (d * 2 ^ x) (2 ^ 1074) (pow-pos 1074) h ∙ ap (λ n. round binary64 g n 1) (cut d x s 1074 e)
+
+pub roundAway-below-half : (v : Float) (g : Bool) (a : ℕ) → 2 * a < 2 ^ 1074 → HasValue v g a (2 ^ 1074) → roundAway v ≡ round binary64 g 0 1
+roundAway-below-half v g a h e =
+    roundAway-by-value v g a (2 ^ 1074) (pow-pos 1074) e ∙ ap (λ n. round binary64 g n 1) (none a (2 ^ 1074) h)
+  where
+    none : (a u : ℕ) → 2 * a < u → (2 * a + u) / (2 * u) ≡ 0
+    none a u h = div-eq-of-lt (omega arith)
+
+assoc-one : (a b c : ℕ) → a * b * c ≡ a * (b * c) * 1
+assoc-one a b c = omega arith
+
+-- a whole number of at most 53 leading digits, in the range, is a float's value
+pub whole-value : (g : Bool) (n k : ℕ) → n < 2 ^ 53 → n * 2 ^ k < 2 ^ 1024 → HasValue (round binary64 g (n * 2 ^ k) 1) g (n * 2 ^ k) 1
+whole-value g n k h l =
+    let eq : n * 2 ^ k * 2 ^ 1074 ≡ n * 2 ^ (k + 1074) * 1 = rw (pow-add 2 k 1074) (assoc-one n (2 ^ k) (2 ^ 1074)) in
+    let big : n * 2 ^ (k + 1074) < 2 ^ 2098 = subst (λ y. y < 2 ^ 2098) (eq ∙ mul-one (n * 2 ^ (k + 1074))) (shl-lt 1024 1074 l) in
+    round-exact binary64 g (n * 2 ^ k) 1 n (k + 1074) (omega arith) h big eq
+
+-- a whole number is rounded to itself
+pub roundAway-of-whole : (v : Float) (g : Bool) (n k : ℕ) → T (fits binary64 v) → n < 2 ^ 53 → n * 2 ^ k < 2 ^ 1024 → HasValue v g (n * 2 ^ k) 1
+    → roundAway v ≡ v
+roundAway-of-whole v g n k f h l e =
+    let w = n * 2 ^ k in
+    let half : (2 * w + 1) / (2 * 1) ≡ w = omega arith in
+    roundAway-by-value v g w 1 (omega arith) e
+    ∙ ap (λ t. round binary64 g t 1) half
+    ∙ whole-unique binary64 (round binary64 g w 1) v g w (round-fits binary64 g w 1) f (whole-value g n k h l) e
+
+-- ---- the sign goes through
+neg-odd : (d q k l : ℕ) → neg (odd d false q k l) ≡ odd d true q k l
+unfolding neg odd
+neg-odd d zero k l = refl
+neg-odd d (suc q) k l = refl
+
+neg-units : (q k : ℕ) → neg (units binary64 false q k) ≡ units binary64 true q k
+unfolding neg units
+neg-units q k = by (ltb (q * 2 ^ k) (2 ^ (1074 + 1024)))
+  where
+    by : (b : Bool) → neg (cond b (odd 54 false q k 1074) (inf false)) ≡ cond b (odd 54 true q k 1074) (inf true)
+    by true = neg-odd 54 q k 1074
+    by false = refl
+
+pub neg-round : (a c : ℕ) → neg (round binary64 false a c) ≡ round binary64 true a c
+neg-round a c =
+    let n = a * 2 ^ low binary64 in
+    let k = size (n / c) - 53 in
+    ap neg (round-is binary64 false a c)
+    ∙ neg-units (nearest (n / (c * 2 ^ k)) (compare (n % (c * 2 ^ k) * 2) (c * 2 ^ k))) k
+    ∙ sym (round-is binary64 true a c)
