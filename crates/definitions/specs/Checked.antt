@@ -34,7 +34,9 @@ either (holds p) q = holds (inl p)
 either (fails p) (holds q) = holds (inr q)
 either (fails p) (fails q) = fails (⊎-elim p q)
 either (fails p) untested = untested
-either untested q = untested
+either untested (holds q) = holds (inr q)
+either untested (fails q) = untested
+either untested untested = untested
 
 module _ (c : Condition) (cs : List Condition) (t : Tested (c .holds)) (k : ℕ) (rest : Tested (Applies cs k)) where
   by-number : (b : Bool) → Tested (elim b [ true ↦ c .holds ⊎ Applies cs k | false ↦ Applies cs k ])
