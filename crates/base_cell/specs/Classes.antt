@@ -12,7 +12,7 @@ use lib.Dec.{eqb}
 use Rattle.definitions.specs.Lists.{upFrom, upTo}
 use Rattle.definitions.specs.Permutation.{image}
 use Rattle.definitions.specs.Orbit.{Step, Joined, none, forth, back}
-use Rattle.base_cell.specs.Items.{map-at, length-upFrom, upFrom-at}
+use Rattle.definitions.specs.ListLaws.{map-at, length-upFrom, upFrom-at}
 use Rattle.base_cell.specs.Joined.{joined-step, joined-trans, joined-sym}
 use Rattle.base_cell.specs.Maps.{Maps, AllMap}
 

@@ -14,7 +14,7 @@ use Rattle.definitions.specs.Lists.{all, those, upTo}
 use Rattle.definitions.specs.Permutation.{isPermutation}
 use Rattle.definitions.specs.Orbit.{Joined, none, primitiveOf, IsLabel, Labels, orbit, orbits, multiplicities}
 use Rattle.definitions.specs.Demand.{JoinTheSame}
-use Rattle.base_cell.specs.Items.{map-at, all-at, those-upTo}
+use Rattle.definitions.specs.ListLaws.{map-at, all-at, those-upTo}
 use Rattle.base_cell.specs.Joined.{joined-trans, joined-sym}
 use Rattle.base_cell.specs.Maps.{AllMap, permutations-all, permutations-map}
 use Rattle.base_cell.specs.Classes.{classes, classes-right}

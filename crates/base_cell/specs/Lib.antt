@@ -1,5 +1,4 @@
 -- Orbits of listed sites: what joined means, how it is decided, and what the labels say.
-pub mod Items
 pub mod Joined
 pub mod Maps
 pub mod Classes

@@ -8,7 +8,7 @@ use lib.ListN.{length, length-map}
 use Rattle.definitions.specs.Permutation.{image, after}
 use Rattle.definitions.specs.Orbit.{Step, Joined}
 use Rattle.definitions.specs.Demand.{JoinTheSame, Rearranged}
-use Rattle.base_cell.specs.Items.{map-at}
+use Rattle.definitions.specs.ListLaws.{map-at}
 use Rattle.base_cell.specs.Joined.{joined-step, joined-trans, joined-by}
 use Rattle.base_cell.specs.Maps.{AllMap, Permutations, permutations-map}
 

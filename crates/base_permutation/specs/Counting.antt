@@ -1,6 +1,6 @@
 -- Laws of the words on lists, by the places of a list: `all`, `count`, `first`, `upFrom`.
 use Prim.Native.Nat.{ℕ, zero, suc, _+_, _≤_, _<_}
-use mathlib.Core.Path.{_≡_, refl, sym, ap, _∙_}
+use mathlib.Core.Path.{_≡_, refl, sym, _∙_}
 use mathlib.Core.Bool.{Bool, true, false}
 use mathlib.Core.List.{List, [], _∷_, _++_}
 use mathlib.Core.Option.{Option, some}
@@ -9,7 +9,8 @@ use native.Mathlib.Nat.{not-suc-le-zero, le-of-suc-le-suc}
 use native.Mathlib.Numerals.{add-one}
 use lib.ListN.{length, getD, take, drop, take-append-drop}
 use lib.Seq.{take-suc, drop-cons}
-use Rattle.definitions.specs.Lists.{all, first, count, upFrom, upTo}
+use Rattle.definitions.specs.ListLaws.{length-upFrom, upTo-at, getD-default}
+use Rattle.definitions.specs.Lists.{all, first, count, upTo}
 
 -- 1 for a test that passes
 abbrev pub bit : Bool → ℕ
@@ -124,20 +125,9 @@ module _ {A : Type 0} (t : A → Bool) (d : A) where
       by false q zero k e rest = absurd (never (sym q ∙ e))
       by false q (suc i) k e rest = let r = rest i (le-of-suc-le-suc k) e in (suc (r .0), omega (arith, r .1), r .2, r .3)
 
--- the places of k, k + 1, ..
-length-upFrom : (k n : ℕ) → length (upFrom k n) ≡ n
-unfolding upFrom
-length-upFrom k zero = refl
-length-upFrom k (suc n) = ap suc (length-upFrom (suc k) n)
-
+-- the places of 0, 1, ..
 pub length-upTo : (n : ℕ) → length (upTo n) ≡ n
 length-upTo n = length-upFrom 0 n
 
-getD-upFrom : (k n i d : ℕ) → i < n → getD (upFrom k n) i d ≡ k + i
-unfolding upFrom
-getD-upFrom k zero i d h = absurd (not-suc-le-zero h)
-getD-upFrom k (suc n) zero d h = omega arith
-getD-upFrom k (suc n) (suc i) d h = omega (arith, getD-upFrom (suc k) n i d (le-of-suc-le-suc h))
-
 pub getD-upTo : (n i d : ℕ) → i < n → getD (upTo n) i d ≡ i
-getD-upTo n i d h = omega (arith, getD-upFrom 0 n i d h)
+getD-upTo n i d h = getD-default (upTo n) i d 0 (omega (arith, length-upFrom 0 n)) ∙ upTo-at n i h

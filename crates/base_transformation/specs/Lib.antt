@@ -1,4 +1,3 @@
-pub mod Lists
 pub mod Residues
 pub mod Box
 pub mod Smith

@@ -11,7 +11,7 @@ use Rattle.definitions.specs.Snf.{State, box, points}
 use Rattle.definitions.specs.Cell.{copies, listedPoints}
 use Rattle.definitions.specs.Demand.{ExactlyOne, DifferByWhole, Covers}
 use Rattle.math_matrix.specs.Exprs.{three-eq}
-use Rattle.base_transformation.specs.Lists.{below-upTo, map-at, each-at}
+use Rattle.definitions.specs.ListLaws.{below-upTo, map-at, each-at}
 use Rattle.base_transformation.specs.Residues.{residue, quotient, residue-below, residue-quotient, residue-unique}
 use Rattle.base_transformation.specs.Box.{positive, placeOf, length-box, box-place, placeOf-below, box-below, box-back, box-at}
 use Rattle.base_transformation.specs.Smith.{Smith, factor, volume, d-times, to-diagonal, from-diagonal}

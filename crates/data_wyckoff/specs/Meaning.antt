@@ -1,5 +1,5 @@
 -- The rows of a triplet mean what the triplet says: RowsMeanTheTriplet.
-use Prim.Native.Nat.{ℕ, _+_, _*_, _/_}
+use Prim.Native.Nat.{ℕ, _*_, _/_}
 use mathlib.Core.Path.{_≡_, sym, ap, ap₂, _∙_}
 use mathlib.Core.List.{List, [], _∷_, map, foldl}
 use lib.IntN.{ℤ, pos, negℤ, _+ℤ_, _*ℤ_, zero-*ℤ, *ℤ-zero, +ℤ-idl, +ℤ-idr}

@@ -1,13 +1,14 @@
 -- A reader of triplets, byte by byte: no definition, but a means to compute what Reads says.
 use Prim.Native.Nat.{ℕ, zero, suc, _<_}
 use mathlib.Core.Path.{_≡_, refl, sym, ap, _∙_, subst}
-use mathlib.Core.Bool.{Bool, true, false, cond}
+use mathlib.Core.Bool.{cond}
 use mathlib.Core.List.{List, [], _∷_, _++_, foldl, foldl-append, append-nil, append-assoc}
 use mathlib.Core.Option.{Option, none, some}
 use lib.Dec.{T, ltb, eqb, ltb→lt}
 use lib.Ieee.Fits.{and-l, and-r}
 use native.Mathlib.Omega.{arith}
 use native.Mathlib.Decide.{ℕ-discrete}
+use Rattle.definitions.specs.ListLaws.{true-of, all-head, all-tail}
 use Rattle.definitions.specs.Lists.{all, each, first}
 use Rattle.definitions.specs.Coordinates.{Axis, Item, Signed, Term, Triplet, isItem, itemOf, isTerm, isTriplet, printAxis, printDigit, printItem, printFirst, printNext, printTerm, print}
 
@@ -139,37 +140,6 @@ finish = atEnd none (λ ts t. triplet (ts ++ (t ∷ [])))
 unfoldable pub parse : List ℕ → Option Triplet
 unfolding step
 parse bs = finish (foldl step (due [] bare) bs)
-
--- ---- tests
-
-pub true-of : (b : Bool) → T b → b ≡ true
-true-of true h = refl
-true-of false h = absurd h
-
-module _ {A : Type 0} (p : A → Bool) where
-  pub all-head : (a : A) (l : List A) → T (all p (a ∷ l)) → T (p a)
-  unfolding all
-  all-head a l h = by (p a) h
-    where
-      by : (b : Bool) → T (elim b [ true ↦ all p l | false ↦ false ]) → T b
-      by true h = tt
-      by false h = h
-
-  pub all-tail : (a : A) (l : List A) → T (all p (a ∷ l)) → T (all p l)
-  unfolding all
-  all-tail a l h = by (p a) h
-    where
-      by : (b : Bool) → T (elim b [ true ↦ all p l | false ↦ false ]) → T (all p l)
-      by true h = h
-      by false h = absurd h
-
-  pub all-cons : (a : A) (l : List A) → T (p a) → T (all p l) → T (all p (a ∷ l))
-  unfolding all
-  all-cons a l h k = subst (λ (b : Bool). T (elim b [ true ↦ all p l | false ↦ false ])) (sym (true-of (p a) h)) k
-
-  pub all-snoc : (l : List A) (a : A) → T (all p l) → T (p a) → T (all p (l ++ (a ∷ [])))
-  all-snoc [] a h k = all-cons a [] k h
-  all-snoc (b ∷ l) a h k = all-cons b (l ++ (a ∷ [])) (all-head b l h) (all-snoc l a (all-tail b l h) k)
 
 -- ---- what it makes of a print
 

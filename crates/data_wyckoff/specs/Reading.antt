@@ -6,7 +6,7 @@ use mathlib.Core.List.{List, [], _∷_, _++_}
 use mathlib.Core.Option.{Option, none, some, Option·none-ne-some, Option·some-injective}
 use lib.Dec.{T, T-not}
 use lib.ListN.{length, replicate}
-use Rattle.definitions.specs.Lists.{all, those}
+use Rattle.definitions.specs.Lists.{those}
 use Rattle.definitions.specs.Coordinates.{Axis, Item, Signed, Triplet, spaceless, Reads, inRange, Readable}
 use Rattle.data_wyckoff.specs.Reader.{parse, parse-print}
 use Rattle.data_wyckoff.specs.Sound.{parse-sound}

@@ -1,5 +1,5 @@
 -- The ring laws of ℤ that lib.IntN lacks, and the set by which `simp` sorts sums of products.
-use Prim.Native.Nat.{suc, zero, _+_}
+use Prim.Native.Nat.{suc, zero}
 use mathlib.Core.Path.{_≡_, sym, ap, _∙_}
 use lib.IntN.{ℤ, pos, negsuc, negℤ, sucℤ, predℤ, _+ℤ_, _-ℤ_, _*ℤ_, +ℤ-assoc, +ℤ-comm, *ℤ-comm, +ℤ-idl, zero-*ℤ, sucℤ-+ℤ, predℤ-+ℤ, sucℤ-*ℤ, predℤ-*ℤ, negℤ-negℤ, negℤ-+ℤ, +ℤ-invr, +ℤ-invl, +ℤ-idr}
 

@@ -17,7 +17,8 @@ pub mod Standardize
 pub mod Report
 pub mod Calls
 pub mod Demand
--- Laws about them, which a reader of the definitions can leave out: from tests to a verdict, one run a matrix, the run found by running it, the centring vectors.
+-- Laws about them, which a reader of the definitions can leave out: lists, from tests to a verdict, one run a matrix, the run found by running it, the centring vectors.
+pub mod ListLaws
 pub mod Checked
 pub mod SnfLaws
 pub mod Evaluate

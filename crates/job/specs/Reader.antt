@@ -11,6 +11,7 @@ use lib.Dec.{T, ltb, eqb, ltb→lt, lt→ltb, eqb→eq, eqb-refl}
 use lib.IntN.{ℤ, pos, negsuc}
 use lib.Pow.{areBytes}
 use borrow.Author.Tests.{lt-ltb, le-ltb, ltb-true, ltb-false, eq-eqb, eqb-true}
+use Rattle.definitions.specs.ListLaws.{both-pass, pass-both}
 use Rattle.definitions.specs.Lists.{all, each}
 use Rattle.definitions.specs.Job.{unsigned, signed, bytes, complement, signedBytes}
 
@@ -33,14 +34,6 @@ pub record Inverse {A : Type 0} (cs : List ℕ) (holds : A → Bool) (print : A 
   pub back : (bs : List ℕ) (a : A) (k : List ℕ) → T (areBytes bs) → read bs ≡ some (a, k) → T (holds a) × (print a ++ k ≡ bs)
 
 -- ---- words on tests and answers
-
-pub both-pass : (a b : Bool) → T (a && b) → T a × T b
-both-pass true b h = (tt, h)
-both-pass false b h = absurd h
-
-pub pass-both : (a b : Bool) → T a → T b → T (a && b)
-pass-both true b h i = i
-pass-both false b h i = absurd h
 
 same-read : {A : Type 0} {a a′ : A} {k k′ : List ℕ} → _≡_ {A = Option (A × List ℕ)} (some (a, k)) (some (a′, k′)) → (a ≡ a′) × (k ≡ k′)
 same-read {a} {a′} {k} {k′} e =

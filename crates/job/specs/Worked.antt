@@ -1,12 +1,10 @@
 -- The worked job of document 01, byte by byte, and bytes that are no job.
-use Prim.Native.Nat.{ℕ, zero, suc}
+use Prim.Native.Nat.{ℕ}
 use mathlib.Core.Path.{_≡_, refl}
 use mathlib.Core.List.{List, [], _∷_, _++_}
-use mathlib.Core.Option.{Option, none, some}
+use mathlib.Core.Option.{some}
 use lib.ListN.{length, take, replicate}
-use lib.Dec.{T}
 use lib.IntN.{ℤ, pos, negsuc}
-use lib.Pow.{areBytes}
 use Rattle.definitions.specs.Job.{Parts, IsJob}
 use Rattle.job.specs.Decode.{decode, decode-sound, not-a-job}
 

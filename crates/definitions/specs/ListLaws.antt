@@ -1,27 +1,62 @@
--- Laws of the lists' words that the orbits need: what stands at an index.
-use Prim.Native.Nat.{ℕ, zero, suc, _+_, _≤_, _<_}
+-- Laws of the words on lists and of tests.
+use Prim.Native.Nat.{ℕ, zero, suc, _+_, _*_, _≤_, _<_}
 use mathlib.Core.Path.{_≡_, refl, sym, ap, _∙_, subst}
 use mathlib.Core.Bool.{Bool, true, false, _&&_}
 use mathlib.Core.Logic.{_↔_, _⊎_, inl, inr, ⊎-elim}
-use mathlib.Core.List.{List, [], _∷_, map, List·Memᴰ, List·Memᴰ·head, List·Memᴰ·tail, List·Memᴰ·cases-cons, List·Memᴰ·not-nil, Memᴰ·cast}
+use mathlib.Core.List.{List, [], _∷_, _++_, map, List·Memᴰ, List·Memᴰ·head, List·Memᴰ·tail, List·Memᴰ·cases-cons, List·Memᴰ·not-nil, Memᴰ·cast}
 use native.Mathlib.Nat.{le-of-suc-le-suc, not-suc-le-zero}
 use native.Mathlib.Omega.{arith}
-use lib.ListN.{getD, length}
+use lib.ListN.{getD, length, length-append, List·getD-append}
+use lib.Seq.{getD-append-add}
 use lib.Dec.{T}
-use Rattle.definitions.specs.Lists.{all, those, upFrom, upTo}
+use Rattle.definitions.specs.Lists.{all, each, those, upFrom, upTo}
+
+-- ---- tests
+
+pub true-of : (b : Bool) → T b → b ≡ true
+true-of true h = refl
+true-of false h = absurd h
+
+pub both-pass : (a b : Bool) → T (a && b) → T a × T b
+both-pass true b h = (tt, h)
+both-pass false b h = absurd h
+
+pub pass-both : (a b : Bool) → T a → T b → T (a && b)
+pass-both true b h i = i
+pass-both false b h i = absurd h
 
 pub and-left : (a b : Bool) → T (a && b) → T a
-and-left true b h = tt
-and-left false b h = h
+and-left a b h = both-pass a b h .0
 
 pub and-right : (a b : Bool) → T (a && b) → T b
-and-right true b h = h
-and-right false b h = absurd h
+and-right a b h = both-pass a b h .1
 
-pub map-at : {A B : Type 0} (f : A → B) (l : List A) (i : ℕ) (d : A) (e : B) → i < length l → getD (map f l) i e ≡ f (getD l i d)
-map-at f [] i d e h = absurd (not-suc-le-zero h)
-map-at f (a ∷ l) zero d e h = refl
-map-at f (a ∷ l) (suc i) d e h = map-at f l i d e (le-of-suc-le-suc h)
+-- ---- every element passes
+
+module _ {A : Type 0} (p : A → Bool) where
+  pub all-head : (a : A) (l : List A) → T (all p (a ∷ l)) → T (p a)
+  unfolding all
+  all-head a l h = by (p a) h
+    where
+      by : (b : Bool) → T (elim b [ true ↦ all p l | false ↦ false ]) → T b
+      by true h = tt
+      by false h = h
+
+  pub all-tail : (a : A) (l : List A) → T (all p (a ∷ l)) → T (all p l)
+  unfolding all
+  all-tail a l h = by (p a) h
+    where
+      by : (b : Bool) → T (elim b [ true ↦ all p l | false ↦ false ]) → T (all p l)
+      by true h = h
+      by false h = absurd h
+
+  pub all-cons : (a : A) (l : List A) → T (p a) → T (all p l) → T (all p (a ∷ l))
+  unfolding all
+  all-cons a l h k = subst (λ (b : Bool). T (elim b [ true ↦ all p l | false ↦ false ])) (sym (true-of (p a) h)) k
+
+  pub all-snoc : (l : List A) (a : A) → T (all p l) → T (p a) → T (all p (l ++ (a ∷ [])))
+  all-snoc [] a h k = all-cons a [] k h
+  all-snoc (b ∷ l) a h k = all-cons b (l ++ (a ∷ [])) (all-head b l h) (all-snoc l a (all-tail b l h) k)
 
 -- every element passes: so does each
 pub all-mem : {A : Type 0} (t : A → Bool) (l : List A) (x : A) → T (all t l) → List·Memᴰ x l → T (t x)
@@ -44,6 +79,19 @@ mem-at (a ∷ l) (suc i) d h = List·Memᴰ·tail (mem-at l i d (le-of-suc-le-su
 pub all-at : {A : Type 0} (t : A → Bool) (l : List A) (i : ℕ) (d : A) → T (all t l) → i < length l → T (t (getD l i d))
 all-at t l i d a h = all-mem t l (getD l i d) a (mem-at l i d h)
 
+-- ---- what stands at a place
+
+-- within a list the default is not read
+pub getD-default : {A : Type 0} (l : List A) (i : ℕ) (d e : A) → i < length l → getD l i d ≡ getD l i e
+getD-default [] i d e h = absurd (not-suc-le-zero h)
+getD-default (a ∷ l) zero d e h = refl
+getD-default (a ∷ l) (suc i) d e h = getD-default l i d e (le-of-suc-le-suc h)
+
+pub map-at : {A B : Type 0} (f : A → B) (l : List A) (i : ℕ) (d : A) (e : B) → i < length l → getD (map f l) i e ≡ f (getD l i d)
+map-at f [] i d e h = absurd (not-suc-le-zero h)
+map-at f (a ∷ l) zero d e h = refl
+map-at f (a ∷ l) (suc i) d e h = map-at f l i d e (le-of-suc-le-suc h)
+
 pub length-upFrom : (k n : ℕ) → length (upFrom k n) ≡ n
 unfolding upFrom
 length-upFrom k zero = refl
@@ -54,6 +102,12 @@ unfolding upFrom
 upFrom-at k zero i h = absurd (not-suc-le-zero h)
 upFrom-at k (suc n) zero h = omega arith
 upFrom-at k (suc n) (suc i) h = omega (arith, upFrom-at (suc k) n i (le-of-suc-le-suc h))
+
+pub upTo-at : (n i : ℕ) → i < n → getD (upTo n) i 0 ≡ i
+upTo-at n i h = omega (arith, upFrom-at 0 n i h)
+
+pub below-upTo : (n i : ℕ) → i < n → i < length (upTo n)
+below-upTo n i h = omega (arith, length-upFrom 0 n)
 
 pub from-upFrom : (k n i : ℕ) → List·Memᴰ i (upFrom k n) → (k ≤ i) × (i < k + n)
 unfolding upFrom
@@ -113,3 +167,30 @@ those-upTo t n j = (
   λ m. let h : List·Memᴰ j (upTo n) × (t j ≡ true) = from-those t (upTo n) j m in (from-upTo n j (h .0), h .1),
   λ h. in-those t (upTo n) j (in-upTo n j (h .0)) (h .1),
 )
+
+-- ---- lists of one length laid one behind the other
+
+-- the place k of the list i, of a lists of m, is a place of the whole
+pub place-below : (a m i k : ℕ) → i < a → k < m → i * m + k < a * m
+place-below zero m i k h g = absurd (not-suc-le-zero h)
+place-below (suc a) m zero k h g = omega arith
+place-below (suc a) m (suc i) k h g = omega (arith, place-below a m i k (le-of-suc-le-suc h) g)
+
+module _ {A B : Type 0} (f : A → List B) (m : ℕ) (size : (x : A) → length (f x) ≡ m) where
+  pub length-each : (l : List A) → length (each f l) ≡ length l * m
+  unfolding each
+  length-each [] = omega arith
+  length-each (x ∷ l) = omega (arith, length-append (f x) (each f l), size x, length-each l)
+
+  pub each-at : (l : List A) (i k : ℕ) (d : A) (e : B) → i < length l → k < m → getD (each f l) (i * m + k) e ≡ getD (f (getD l i d)) k e
+  unfolding each
+  each-at [] i k d e h g = absurd (not-suc-le-zero h)
+  each-at (x ∷ l) zero k d e h g =
+      let o : 0 * m + k ≡ k = omega arith in
+      let u : k < length (f x) = omega (arith, size x) in
+      ap (λ n. getD (f x ++ each f l) n e) o ∙ List·getD-append (f x) (each f l) e k u
+  each-at (x ∷ l) (suc i) k d e h g =
+      let o : suc i * m + k ≡ length (f x) + (i * m + k) = omega (arith, size x) in
+      ap (λ n. getD (f x ++ each f l) n e) o
+      ∙ getD-append-add (f x) (each f l) (i * m + k) e
+      ∙ each-at l i k d e (le-of-suc-le-suc h) g
