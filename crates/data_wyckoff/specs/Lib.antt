@@ -2,5 +2,4 @@
 pub mod Reader
 pub mod Sound
 pub mod Reading
-pub mod Ring
 pub mod Meaning

@@ -6,7 +6,7 @@ use lib.IntN.{ℤ, pos, negℤ, _+ℤ_, _*ℤ_, zero-*ℤ, *ℤ-zero, +ℤ-idl, 
 use native.Mathlib.Nat.{mul-comm}
 use Rattle.definitions.specs.Matrix.{dot}
 use Rattle.definitions.specs.Coordinates.{Axis, Item, Signed, items, coefficientIn, signedBy, numerator, denominator, itemValue, signedValue, RowsMeanTheTriplet}
-use Rattle.data_wyckoff.specs.Ring.{ring, *ℤ-assoc}
+use Rattle.math_matrix.specs.Ring.{ring, *ℤ-assoc}
 
 abbrev exactIn : Item → ℕ
 exactIn i = 2520 / denominator i * numerator i
