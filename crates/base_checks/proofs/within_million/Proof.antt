@@ -1,0 +1,17 @@
+-- The code's literal is the definition's limit, 15625 times 2 to the 6.
+use lib.IntN.{pos}
+use lib.Ieee.{ofInt, ofBits}
+use borrow.Author.Needs.{needs}
+use Rattle.base_checks.proofs.Laws.{in-limits-F}
+use Rattle.base_checks.proofs.within_million.Statement.{statement}
+use Rattle.base_checks.proofs.within_million.Tie as tie
+
+between-requires : tie.Need-between-requires
+between-requires c κs = search needs
+
+returns : tie.Need-returns
+unfolding ofInt ofBits
+returns c = simp (c .between .ensures) (in-limits-F 15625 (pos 6) (c .before .args .x))
+
+pub within-million-spec : {M : Type 1} → statement M
+within-million-spec = tie.close (tie.spec between-requires returns)

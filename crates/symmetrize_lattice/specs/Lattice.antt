@@ -1,0 +1,44 @@
+-- What a call on a lattice answers, on its own arguments, and the parts of a symmetrised metric.
+use mathlib.Core.Bool.{Bool, not, _&&_}
+use mathlib.Core.List.{List, map}
+use lib.Ieee.{eq}
+use Rattle.definitions.specs.declared.Verdict.{Verdict}
+use Rattle.definitions.specs.declared.Verdict.the-variants.{Accepted, Refused}
+use Rattle.definitions.specs.Matrix.{Matrix, mat}
+use Rattle.definitions.specs.Real.{RealMatrix, zeroF, real, mulF, transposeF, sumM, inverseOfC, inverseF, detF}
+use Rattle.definitions.specs.Symmetrization.{conventionalBasis, symmetrizedBasis}
+use Rattle.math_real.specs.Rows.{allFinite}
+
+-- ---- the answer
+
+abbrev pub zeros : RealMatrix
+zeros = mat (λ i j. zeroF)
+
+-- the matrix of an accepted call; after a refusal "all lent output is zero"
+abbrev pub ifAccepted : Verdict → RealMatrix → RealMatrix
+ifAccepted Accepted m = m
+ifAccepted (Refused k) m = zeros
+
+-- the symmetrised conventional basis of the lattice l under the rotations rs
+abbrev pub newOf : RealMatrix → Matrix → Matrix → List Matrix → RealMatrix
+newOf l t c rs = symmetrizedBasis (conventionalBasis l t c) rs
+
+-- "The primitive basis is the new basis times C⁻¹; the listed basis is the primitive one times C"
+abbrev pub primitiveOf : RealMatrix → Matrix → Matrix → List Matrix → RealMatrix
+primitiveOf l t c rs = mulF (newOf l t c rs) (inverseOfC c)
+
+abbrev pub listedOf : RealMatrix → Matrix → Matrix → List Matrix → RealMatrix
+listedOf l t c rs = mulF (primitiveOf l t c rs) (real c)
+
+-- ---- the parts
+
+-- (RᵀG)R
+abbrev pub turned : RealMatrix → Matrix → RealMatrix
+turned g r = mulF (mulF (transposeF (real r)) g) (real r)
+
+abbrev pub totalMetric : RealMatrix → List Matrix → RealMatrix
+totalMetric g rs = sumM (map (turned g) rs)
+
+-- the old basis has an inverse, and the deformation from it to the new one is finite
+abbrev pub deforms : RealMatrix → RealMatrix → Bool
+deforms old new = not (eq (detF old) zeroF) && allFinite (mulF new (inverseF old))
