@@ -133,7 +133,7 @@ def statement(name, words, data, room, answer):
     print("abbrev bytes-%s : List ℕ" % name)
     print("bytes-%s = %s" % (name, numbers(data)))
     print()
-    print("abbrev outcome-%s : Outcome Answer" % name)
+    print("abbrev pub outcome-%s : Outcome Answer" % name)
     print("outcome-%s = %s" % (name, answer))
     print()
     print("pub %s : BytesReturn bytes-%s %s outcome-%s" % (name, name, room, name))

@@ -2,3 +2,4 @@ pub mod Computed
 pub mod Evaluate
 pub mod Starred
 pub mod Jobs
+pub mod Reports

@@ -1,0 +1,5 @@
+pub mod Ints
+pub mod Grades
+pub mod Stages
+pub mod Pivots
+pub mod Entries

@@ -1,0 +1,71 @@
+use borrow.Author.Needs.{needs}
+use mathlib.Core.Path.{sym, ap, _∙_}
+use lib.IntN.{ℤ, natAbs}
+use mir.Syntax.{w32}
+use mir.Val.{ofZ}
+use borrow.Author.Tests.{le-leb, lt-leb}
+use Rattle.math_snf.specs.Step.{keptRow}
+use Rattle.math_matrix.specs.Bounds.{back}
+use Rattle.math_snf_laws.specs.Numbers.{none-is}
+use Rattle.math_snf.proofs.Ints.{zero-32}
+use Rattle.math_snf.proofs.Grades.{graded-none, row-not, row-graded}
+use Rattle.math_snf.proofs.clear_row.Statement.{statement}
+use Rattle.math_snf.proofs.clear_row.Tie as tie
+
+returns : tie.Need-returns
+returns c = λ _. rw (le-leb (c .before .args .i) (c .before .args .s) (c .if1 .taken)) (graded-none _)
+
+by-pivot-requires : tie.Need-by-pivot-requires
+by-pivot-requires c κs = search needs
+
+returns-2 : tie.Need-returns-2
+returns-2 c = λ _.
+    let s = c .before .before .before .before .before in
+    let q = c .before .by-pivot in
+    rw (lt-leb (s .args .i) (s .args .s) (c .before .before .before .before .if1 .left))
+    (row-not (s .args .s) (s .args .i) _ (ap natAbs (sym (q .ensures) ∙ zero-32 (q .result) (q .ok) (c .if2 .taken))))
+
+less-row-requires : tie.Need-less-row-requires
+less-row-requires c κs = search needs
+
+less-row-requires-2 : tie.Need-less-row-requires-2
+less-row-requires-2 c κs = search needs
+
+row-small-requires : tie.Need-row-small-requires
+row-small-requires c κs = search needs
+
+row-small-requires-2 : tie.Need-row-small-requires-2
+row-small-requires-2 c κs = search needs
+
+both-requires : tie.Need-both-requires
+both-requires c κs = search needs
+
+graded-requires : tie.Need-graded-requires
+graded-requires c κs = search needs
+
+returns-3 : tie.Need-returns-3
+returns-3 c = λ _.
+    let s = c .before .before .before .before .before .before .before .before .before .before .before in
+    let q = c .before .before .before .before .before .before .before .by-pivot in
+    let k = back w32 (q .result) (q .ok) ∙ q .ensures in
+    rw (lt-leb (s .args .i) (s .args .s) (c .before .before .before .before .before .before .before .before .before .before .if1 .left), c .graded .ensures)
+    (row-graded (s .args .s) (s .args .i) _ (c .before .both .result) (c .before .before .before .before .before .less-row .result) (c .before .before .before .before .less-row2 .result) (s .pre .1)
+    (λ e. c .before .before .before .before .before .before .if2 .left (ap (ofZ w32) (q .ensures ∙ none-is _ e)))
+    (c .before .before .before .before .before .less-row .ensures ∙ ap (λ (z : ℤ). keptRow (s .args .i) z (s .args .s) (s .args .d .now)) k)
+    (c .before .before .before .before .less-row2 .ensures ∙ ap (λ (z : ℤ). keptRow (s .args .i) z (s .args .s) (s .args .l .now)) k)
+    (simp (c .before .both .ensures, c .before .before .row-small2 .ensures, c .before .before .before .row-small .ensures)))
+
+pub clear-row-spec : {M : Type 1} → statement M
+clear-row-spec =
+    tie.close
+    (tie.spec
+    returns
+    by-pivot-requires
+    returns-2
+    less-row-requires
+    less-row-requires-2
+    row-small-requires
+    row-small-requires-2
+    both-requires
+    graded-requires
+    returns-3)

@@ -1,0 +1,49 @@
+use borrow.Author.Needs.{needs}
+use mathlib.Core.Path.{subst₂}
+use Rattle.definitions.specs.Matrix.{Matrix, identity}
+use Rattle.math_snf.specs.Step.{dlr, Ended}
+use Rattle.math_snf.proofs.Stages.{ran}
+use Rattle.math_snf.proofs.run.Statement.{statement}
+use Rattle.math_snf.proofs.run.Tie as tie
+
+widened-requires : tie.Need-widened-requires
+widened-requires c κs = search needs
+
+unit-requires : tie.Need-unit-requires
+unit-requires c κs = search needs
+
+stage-requires : tie.Need-stage-requires
+stage-requires c κs = search needs
+
+stage-requires-2 : tie.Need-stage-requires-2
+stage-requires-2 c κs = search needs
+
+stage-requires-3 : tie.Need-stage-requires-3
+stage-requires-3 c κs = search needs
+
+both-requires : tie.Need-both-requires
+both-requires c κs = search needs
+
+both-requires-2 : tie.Need-both-requires-2
+both-requires-2 c κs = search needs
+
+returns : tie.Need-returns
+returns c =
+    let m = c .before .before .before .before .before .before .before .before .before .before .before .before .before .before .before .before .args .m in
+    let x = c .before .before .before .before .before .before .before .before .before .before .stage in
+    let u = dlr (x .last .0) (x .last .1 .0) (x .last .1 .1 .0) in
+    let first : Ended 0 (dlr m identity identity) (x .result) u = subst₂ (λ (d e : Matrix). Ended 0 (dlr d e e) (x .result) u) (c .before .before .before .before .before .before .before .before .before .before .before .before .before .before .before .widened .ensures) (c .before .before .before .before .before .before .before .before .before .before .before .before .before .before .unit .ensures) (x .ensures) in
+    simp (c .both2 .ensures, c .before .both .ensures) (ran m _ _ _ _ _ _ first (c .before .before .before .before .before .before .stage2 .ensures) (c .before .before .stage3 .ensures))
+
+pub run-spec : {M : Type 1} → statement M
+run-spec =
+    tie.close
+    (tie.spec
+    widened-requires
+    unit-requires
+    stage-requires
+    stage-requires-2
+    stage-requires-3
+    both-requires
+    both-requires-2
+    returns)

@@ -1,0 +1,528 @@
+ghost use mathlib.Core.Path.{_≡_};
+ghost use mathlib.Core.Bool.{_&&_, cond};
+ghost use mathlib.Core.List.{[], _∷_};
+ghost use Prim.Native.Nat.{_<_};
+ghost use lib.Dec.{leb, eqb};
+ghost use lib.IntN.{pos, natAbs, _-ℤ_, _*ℤ_};
+ghost use lib.Signed.{quotZ};
+ghost use Rattle.definitions.specs.Lists.{all};
+ghost use Rattle.definitions.specs.Matrix.{Matrix, at, item, three, identity};
+ghost use Rattle.definitions.specs.Snf.{State, small, swapped, swapRows, swapColumns, row, column, lesser, pivot, moved, signed, cleared, diagonal};
+ghost use Rattle.math_snf.specs.Step.{kept, keptRow, keptColumn, worse, dlr, begin, Graded, rowBelow, columnRight, placeOf, Inside, lesserFrom, leastInRow, passAt, Ended, Ran};
+ghost use Rattle.math_snf.specs.Call.{zeroMatrix, Cleared};
+ghost use Rattle.definitions.specs.Standardize.{inRange};
+ghost use Rattle.definitions.specs.Calls.{snfConditions, IsSnf};
+ghost use Rattle.definitions.specs.Refusal.{Returns, outcomeOf};
+ghost use Rattle.definitions.specs.declared.Verdict.the-variants.{Refused};
+use definitions::Verdict;
+
+// D, L or R
+type Mat = [[i16; 3]; 3];
+
+// the place of the pivot, if one is left
+enum Pivot {
+    At(usize, usize),
+    Nothing,
+}
+
+// ---- entries
+
+// 512 stands for a number that has left -511..511
+fn kept_entry(x: i64) -> i16
+    ensures { λ r. ⌜ r ≡ kept x ⌝ }
+{
+    if x < -511 {
+        return 512;
+    }
+    if 511 < x {
+        return 512;
+    }
+    x as i16
+}
+
+fn is_small(x: i16) -> bool
+    ensures { λ r. ⌜ r ≡ small x ⌝ }
+{
+    -511 <= x && x <= 511
+}
+
+// x - k y
+fn less_times(x: i16, k: i32, y: i16) -> i64
+    ensures { λ r. ⌜ r ≡ x -ℤ k *ℤ y ⌝ }
+{
+    let a = x as i64;
+    let b = k as i64;
+    let c = y as i64;
+    a - b * c
+}
+
+// cut toward 0; by 0 it is 0
+fn quotient(x: i16, y: i16) -> i32
+    ensures { λ r. ⌜ r ≡ quotZ x y ⌝ }
+{
+    let a = x as i32;
+    let b = y as i32;
+    if b == 0 {
+        return 0;
+    }
+    a / b
+}
+
+fn size(x: i16) -> i32
+    ensures { λ r. ⌜ r ≡ pos (natAbs x) ⌝ }
+{
+    let a = x as i32;
+    if a < 0 {
+        return 0 - a;
+    }
+    a
+}
+
+fn both(a: bool, b: bool) -> bool
+    ensures { λ r. ⌜ r ≡ (a && b) ⌝ }
+{
+    a && b
+}
+
+// the grade of two steps, one behind the other
+fn worst(g: usize, h: usize) -> usize
+    ensures { λ r. ⌜ r ≡ worse g h ⌝ }
+{
+    if g < h {
+        return h;
+    }
+    g
+}
+
+// x, or in the line i what is kept of x - k y
+fn cleared_entry(a: usize, i: usize, x: i16, k: i32, y: i16) -> i16
+    ensures { λ r. ⌜ r ≡ cond (eqb a i) (kept (x -ℤ k *ℤ y)) x ⌝ }
+{
+    if a == i {
+        return kept_entry(less_times(x, k, y));
+    }
+    x
+}
+
+// ---- matrices
+
+// the line x of number a; in the line i, what is kept of x less k times y
+fn line_less(a: usize, i: usize, x: [i16; 3], k: i32, y: [i16; 3]) -> [i16; 3]
+    ensures { λ r. ⌜ r ≡ three (λ b. cond (eqb a i) (kept (item x b -ℤ k *ℤ item y b)) (item x b)) ⌝ }
+{
+    let p = cleared_entry(a, i, x[0], k, y[0]);
+    let q = cleared_entry(a, i, x[1], k, y[1]);
+    let t = cleared_entry(a, i, x[2], k, y[2]);
+    [p, q, t]
+}
+
+// m with row i less k times row s
+fn less_row(m: Mat, i: usize, k: i32, s: usize) -> Mat
+    requires { ⌜ s < 3 ⌝ }
+    ensures { λ r. ⌜ r ≡ keptRow i k s m ⌝ }
+{
+    let y = m[s];
+    let p = line_less(0, i, m[0], k, y);
+    let q = line_less(1, i, m[1], k, y);
+    let t = line_less(2, i, m[2], k, y);
+    [p, q, t]
+}
+
+// the row x; at j, what is kept of x[j] less k times x[s]
+fn less_at(x: [i16; 3], j: usize, k: i32, s: usize) -> [i16; 3]
+    requires { ⌜ s < 3 ⌝ }
+    ensures { λ r. ⌜ r ≡ three (λ b. cond (eqb b j) (kept (item x b -ℤ k *ℤ item x s)) (item x b)) ⌝ }
+{
+    let y = x[s];
+    let p = cleared_entry(0, j, x[0], k, y);
+    let q = cleared_entry(1, j, x[1], k, y);
+    let t = cleared_entry(2, j, x[2], k, y);
+    [p, q, t]
+}
+
+// m with column j less k times column s
+fn less_column(m: Mat, j: usize, k: i32, s: usize) -> Mat
+    requires { ⌜ s < 3 ⌝ }
+    ensures { λ r. ⌜ r ≡ keptColumn j k s m ⌝ }
+{
+    let p = less_at(m[0], j, k, s);
+    let q = less_at(m[1], j, k, s);
+    let t = less_at(m[2], j, k, s);
+    [p, q, t]
+}
+
+// three entries of a row
+fn picked(x: [i16; 3], p: usize, q: usize, t: usize) -> [i16; 3]
+    requires { ⌜ (p < 3) × (q < 3) × (t < 3) ⌝ }
+    ensures { λ r. ⌜ r ≡ item x p ∷ item x q ∷ item x t ∷ [] ⌝ }
+{
+    [x[p], x[q], x[t]]
+}
+
+fn swap_index(a: usize, b: usize, i: usize) -> usize
+    requires { ⌜ (a < 3) × (b < 3) × (i < 3) ⌝ }
+    ensures { λ r. ⌜ r ≡ swapped a b i ⌝ }
+    ensures { λ r. ⌜ r < 3 ⌝ }
+{
+    if i == a {
+        return b;
+    }
+    if i == b {
+        return a;
+    }
+    i
+}
+
+fn swap_rows(m: Mat, a: usize, b: usize) -> Mat
+    requires { ⌜ (a < 3) × (b < 3) ⌝ }
+    ensures { λ r. ⌜ r ≡ swapRows a b m ⌝ }
+{
+    let p = swap_index(a, b, 0);
+    let q = swap_index(a, b, 1);
+    let t = swap_index(a, b, 2);
+    [
+        picked(m[p], 0, 1, 2),
+        picked(m[q], 0, 1, 2),
+        picked(m[t], 0, 1, 2),
+    ]
+}
+
+fn swap_columns(m: Mat, a: usize, b: usize) -> Mat
+    requires { ⌜ (a < 3) × (b < 3) ⌝ }
+    ensures { λ r. ⌜ r ≡ swapColumns a b m ⌝ }
+{
+    let p = swap_index(a, b, 0);
+    let q = swap_index(a, b, 1);
+    let t = swap_index(a, b, 2);
+    [
+        picked(m[0], p, q, t),
+        picked(m[1], p, q, t),
+        picked(m[2], p, q, t),
+    ]
+}
+
+fn three_small(x: i16, y: i16, z: i16) -> bool
+    ensures { λ r. ⌜ r ≡ all small (x ∷ y ∷ z ∷ []) ⌝ }
+{
+    both(is_small(x), both(is_small(y), is_small(z)))
+}
+
+fn line_small(x: [i16; 3]) -> bool
+    ensures { λ r. ⌜ r ≡ all small (three (λ j. item x j)) ⌝ }
+{
+    three_small(x[0], x[1], x[2])
+}
+
+fn row_small(m: Mat, i: usize) -> bool
+    requires { ⌜ i < 3 ⌝ }
+    ensures { λ r. ⌜ r ≡ all small (row i m) ⌝ }
+{
+    line_small(m[i])
+}
+
+fn column_small(m: Mat, j: usize) -> bool
+    requires { ⌜ j < 3 ⌝ }
+    ensures { λ r. ⌜ r ≡ all small (column j m) ⌝ }
+{
+    let x = m[0];
+    let y = m[1];
+    let z = m[2];
+    three_small(x[j], y[j], z[j])
+}
+
+// ---- the pivot
+
+fn size_at(m: Mat, i: usize, j: usize) -> i32
+    requires { ⌜ (i < 3) × (j < 3) ⌝ }
+    ensures { λ r. ⌜ r ≡ pos (natAbs (at m i j)) ⌝ }
+{
+    size(m[i][j])
+}
+
+fn lesser_place(m: Mat, i: usize, j: usize, q: Pivot) -> Pivot
+    requires { ⌜ (i < 3) × (j < 3) × (Inside q) ⌝ }
+    ensures { λ r. ⌜ placeOf r ≡ lesser m (i, j) (placeOf q) ⌝ }
+    ensures { λ r. ⌜ Inside r ⌝ }
+{
+    let a = size_at(m, i, j);
+    if a == 0 {
+        return q;
+    }
+    match q {
+        Pivot::Nothing => Pivot::At(i, j),
+        Pivot::At(x, y) => {
+            if a <= size_at(m, x, y) {
+                Pivot::At(i, j)
+            } else {
+                Pivot::At(x, y)
+            }
+        }
+    }
+}
+
+fn lesser_from(m: Mat, s: usize, i: usize, j: usize, q: Pivot) -> Pivot
+    requires { ⌜ (i < 3) × (j < 3) × (Inside q) ⌝ }
+    ensures { λ r. ⌜ placeOf r ≡ lesserFrom s m (i, j) (placeOf q) ⌝ }
+    ensures { λ r. ⌜ Inside r ⌝ }
+{
+    if i < s {
+        return q;
+    }
+    if j < s {
+        return q;
+    }
+    lesser_place(m, i, j, q)
+}
+
+fn least_in_row(m: Mat, s: usize, i: usize, q: Pivot) -> Pivot
+    requires { ⌜ (i < 3) × (Inside q) ⌝ }
+    ensures { λ r. ⌜ placeOf r ≡ leastInRow s m i (placeOf q) ⌝ }
+    ensures { λ r. ⌜ Inside r ⌝ }
+{
+    let x = lesser_from(m, s, i, 2, q);
+    let y = lesser_from(m, s, i, 1, x);
+    lesser_from(m, s, i, 0, y)
+}
+
+// of least magnitude, the first in row order
+fn pivot_from(m: Mat, s: usize) -> Pivot
+    requires { ⌜ s < 3 ⌝ }
+    ensures { λ r. ⌜ placeOf r ≡ pivot s m ⌝ }
+    ensures { λ r. ⌜ Inside r ⌝ }
+{
+    let x = least_in_row(m, s, 2, Pivot::Nothing);
+    let y = least_in_row(m, s, 1, x);
+    least_in_row(m, s, 0, y)
+}
+
+// ---- the steps of a pass, each with its grade: 0 nothing was cleared, 1 something was, 2 an assigned entry has left the range
+
+fn graded(ok: bool, g: usize) -> usize
+    ensures { λ r. ⌜ r ≡ cond ok g 2 ⌝ }
+{
+    if ok {
+        return g;
+    }
+    2
+}
+
+fn move_pivot(d: &mut Mat, l: &mut Mat, r: &mut Mat, s: usize, i: usize, j: usize)
+    requires { ⌜ (s < 3) × (i < 3) × (j < 3) ⌝ }
+    ensures { λ _. ⌜ dlr (now (d .exit)) (now (l .exit)) (now (r .exit)) ≡ moved s (i, j) (dlr (now (d .entry)) (now (l .entry)) (now (r .entry))) ⌝ }
+{
+    *d = swap_columns(swap_rows(*d, s, i), s, j);
+    *l = swap_rows(*l, s, i);
+    *r = swap_columns(*r, s, j);
+}
+
+// a negative pivot negates its column: the column less twice itself
+fn sign(d: &mut Mat, r: &mut Mat, s: usize) -> usize
+    requires { ⌜ s < 3 ⌝ }
+    ensures { λ g. ⌜ ((l : Matrix) → Graded (signed s (dlr (now (d .entry)) l (now (r .entry)))) g (dlr (now (d .exit)) l (now (r .exit)))) ⌝ }
+{
+    let m = *d;
+    let n = *r;
+    if 0 <= m[s][s] {
+        return 0;
+    }
+    let p = less_column(m, s, 2, s);
+    let q = less_column(n, s, 2, s);
+    *d = p;
+    *r = q;
+    graded(both(column_small(p, s), column_small(q, s)), 0)
+}
+
+// the quotient of an entry by the pivot
+fn by_pivot(m: Mat, i: usize, j: usize, s: usize) -> i32
+    requires { ⌜ (i < 3) × (j < 3) × (s < 3) ⌝ }
+    ensures { λ r. ⌜ r ≡ quotZ (at m i j) (at m s s) ⌝ }
+{
+    quotient(m[i][j], m[s][s])
+}
+
+fn clear_row(d: &mut Mat, l: &mut Mat, s: usize, i: usize) -> usize
+    requires { ⌜ (s < 3) × (i < 3) ⌝ }
+    ensures { λ g. ⌜ ((r : Matrix) → Graded (rowBelow s i (begin (dlr (now (d .entry)) (now (l .entry)) r))) g (dlr (now (d .exit)) (now (l .exit)) r)) ⌝ }
+{
+    if i <= s {
+        return 0;
+    }
+    let m = *d;
+    let n = *l;
+    let k = by_pivot(m, i, s, s);
+    if k == 0 {
+        return 0;
+    }
+    let p = less_row(m, i, k, s);
+    let q = less_row(n, i, k, s);
+    *d = p;
+    *l = q;
+    graded(both(row_small(p, i), row_small(q, i)), 1)
+}
+
+fn clear_column(d: &mut Mat, r: &mut Mat, s: usize, j: usize) -> usize
+    requires { ⌜ (s < 3) × (j < 3) ⌝ }
+    ensures { λ g. ⌜ ((l : Matrix) → Graded (columnRight s j (begin (dlr (now (d .entry)) l (now (r .entry))))) g (dlr (now (d .exit)) l (now (r .exit)))) ⌝ }
+{
+    if j <= s {
+        return 0;
+    }
+    let m = *d;
+    let n = *r;
+    let k = by_pivot(m, s, j, s);
+    if k == 0 {
+        return 0;
+    }
+    let p = less_column(m, j, k, s);
+    let q = less_column(n, j, k, s);
+    *d = p;
+    *r = q;
+    graded(both(column_small(p, j), column_small(q, j)), 1)
+}
+
+fn sweep(d: &mut Mat, l: &mut Mat, r: &mut Mat, s: usize) -> usize
+    requires { ⌜ s < 3 ⌝ }
+    ensures { λ g. ⌜ Graded (cleared s (signed s (dlr (now (d .entry)) (now (l .entry)) (now (r .entry))))) g (dlr (now (d .exit)) (now (l .exit)) (now (r .exit))) ⌝ }
+{
+    let a = sign(d, r, s);
+    let b = worst(a, clear_row(d, l, s, 1));
+    let e = worst(b, clear_row(d, l, s, 2));
+    let f = worst(e, clear_column(d, r, s, 1));
+    worst(f, clear_column(d, r, s, 2))
+}
+
+fn one_pass(d: &mut Mat, l: &mut Mat, r: &mut Mat, s: usize) -> usize
+    requires { ⌜ s < 3 ⌝ }
+    ensures { λ g. ⌜ Graded (passAt s (dlr (now (d .entry)) (now (l .entry)) (now (r .entry))) (pivot s (now (d .entry)))) g (dlr (now (d .exit)) (now (l .exit)) (now (r .exit))) ⌝ }
+{
+    let p = pivot_from(*d, s);
+    match p {
+        Pivot::Nothing => 0,
+        Pivot::At(i, j) => {
+            move_pivot(d, l, r, s, i, j);
+            sweep(d, l, r, s)
+        }
+    }
+}
+
+// ---- stages
+
+// one stage; false where an assigned entry has left the range
+fn stage(d: &mut Mat, l: &mut Mat, r: &mut Mat, s: usize) -> bool
+    requires { ⌜ s < 3 ⌝ }
+    ensures { λ ok. ⌜ Ended s (dlr (now (d .entry)) (now (l .entry)) (now (r .entry))) ok (dlr (now (d .exit)) (now (l .exit)) (now (r .exit))) ⌝ }
+{
+    let mut g: usize = 1;
+    while g == 1 {
+        g = one_pass(d, l, r, s);
+    }
+    g == 0
+}
+
+fn wide(x: i8) -> i16
+    ensures { λ r. ⌜ r ≡ x ⌝ }
+{
+    x as i16
+}
+
+fn wide_row(x: [i8; 3]) -> [i16; 3]
+    ensures { λ r. ⌜ r ≡ three (λ j. item x j) ⌝ }
+{
+    let p = wide(x[0]);
+    let q = wide(x[1]);
+    let t = wide(x[2]);
+    [p, q, t]
+}
+
+fn widened(m: [[i8; 3]; 3]) -> Mat
+    ensures { λ r. ⌜ r ≡ m ⌝ }
+{
+    let p = wide_row(m[0]);
+    let q = wide_row(m[1]);
+    let t = wide_row(m[2]);
+    [p, q, t]
+}
+
+fn is_entry(x: i8) -> bool
+    ensures { λ r. ⌜ r ≡ leb (natAbs x) 31 ⌝ }
+{
+    -31 <= x && x <= 31
+}
+
+fn row_in_range(x: [i8; 3]) -> bool
+    ensures { λ r. ⌜ r ≡ all (λ n. leb (natAbs n) 31) (three (λ j. item x j)) ⌝ }
+{
+    both(is_entry(x[0]), both(is_entry(x[1]), is_entry(x[2])))
+}
+
+fn in_range(m: [[i8; 3]; 3]) -> bool
+    ensures { λ r. ⌜ r ≡ inRange m ⌝ }
+{
+    both(
+        row_in_range(m[0]),
+        both(row_in_range(m[1]), row_in_range(m[2])),
+    )
+}
+
+fn zero() -> Mat
+    ensures { λ r. ⌜ r ≡ zeroMatrix ⌝ }
+{
+    [[0, 0, 0], [0, 0, 0], [0, 0, 0]]
+}
+
+fn unit() -> Mat
+    ensures { λ r. ⌜ r ≡ identity ⌝ }
+{
+    [[1, 0, 0], [0, 1, 0], [0, 0, 1]]
+}
+
+// D = m, L and R the identity, and the three stages; a stage that has left the range leaves the rest with nothing to say
+fn run(m: [[i8; 3]; 3], d: &mut Mat, l: &mut Mat, r: &mut Mat) -> bool
+    ensures { λ ok. ⌜ Ran m ok (dlr (now (d .exit)) (now (l .exit)) (now (r .exit))) ⌝ }
+{
+    *d = widened(m);
+    let e = unit();
+    *l = e;
+    *r = e;
+    let a = stage(d, l, r, 0);
+    let b = stage(d, l, r, 1);
+    let c = stage(d, l, r, 2);
+    both(both(a, b), c)
+}
+
+fn refuse(d: &mut Mat, l: &mut Mat, r: &mut Mat, k: usize) -> Verdict
+    ensures { λ v. ⌜ v ≡ Refused k ⌝ }
+    ensures { λ _. ⌜ dlr (now (d .exit)) (now (l .exit)) (now (r .exit)) ≡ dlr zeroMatrix zeroMatrix zeroMatrix ⌝ }
+{
+    let z = zero();
+    *d = z;
+    *l = z;
+    *r = z;
+    Verdict::Refused(k)
+}
+
+// moyo's `SNF::new`: D = L m R, or a refusal
+pub fn snf(
+    m: [[i8; 3]; 3],
+    d: &mut [[i16; 3]; 3],
+    l: &mut [[i16; 3]; 3],
+    r: &mut [[i16; 3]; 3],
+) -> Verdict
+    ensures { λ v. ⌜ Returns (snfConditions m) (IsSnf m) (outcomeOf (record { d = now (d .exit); l = now (l .exit); r = now (r .exit) }) v) ⌝ }
+    ensures { λ v. ⌜ Cleared v (record { d = now (d .exit); l = now (l .exit); r = now (r .exit) }) ⌝ }
+{
+    if !in_range(m) {
+        return refuse(d, l, r, 3);
+    }
+    if !run(m, d, l, r) {
+        return refuse(d, l, r, 8);
+    }
+    Verdict::Accepted
+}
+
+// the diagonal of D
+pub fn invariant_factors(d: [[i16; 3]; 3]) -> [i16; 3]
+    ensures { λ r. ⌜ ((t : State) → t .d ≡ d → r ≡ diagonal t) ⌝ }
+{
+    [d[0][0], d[1][1], d[2][2]]
+}
