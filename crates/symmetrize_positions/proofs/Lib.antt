@@ -1,0 +1,8 @@
+-- Laws of the loops.
+pub mod Search
+pub mod Sums
+pub mod Cells
+pub mod Counts
+pub mod Exact
+pub mod Accepted
+pub mod Moved

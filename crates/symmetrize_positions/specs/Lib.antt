@@ -1,0 +1,2 @@
+-- What the calls share.
+pub mod Targets
