@@ -3,3 +3,5 @@ pub mod Box
 pub mod Smith
 pub mod Points
 pub mod Covered
+pub mod Answers
+pub mod Lent

@@ -1,0 +1,30 @@
+-- What `snf` returns, without R.
+use Rattle.base_transformation.proofs.Accepted.{snf-accepts, snf-refuses}
+use borrow.Author.Needs.{needs}
+use Rattle.base_transformation.proofs.diagonalise.Statement.{statement}
+use Rattle.base_transformation.proofs.diagonalise.Tie as tie
+
+snf-requires : tie.Need-snf-requires
+snf-requires c κs = search needs
+
+enum-told : tie.Need-enum-told
+enum-told c = search needs
+
+enum-told-2 : tie.Need-enum-told-2
+enum-told-2 c = search needs
+
+returns : tie.Need-returns
+returns c =
+    let s = c .before .before .before .before .before .before in
+    let f = c .before .before .snf in
+    let x = snf-accepts (s .args .c) (record { d = f .last .1 .0; l = f .last .1 .1 .0; r = f .last .1 .1 .1 .0 }) (rw (c .enum-told .given .1) at (f .ensures .0)) in
+    (x .0, (f .last .1 .1 .1 .0, x .1))
+
+returns-2 : tie.Need-returns-2
+returns-2 c =
+    let s = c .before .before .before .before .before .before in
+    let f = c .before .before .snf in
+    snf-refuses (s .args .c) (s .pre) _ (rw (c .enum-told2 .given .1) at (f .ensures .0))
+
+pub diagonalise-spec : {M : Type 1} → statement M
+diagonalise-spec = tie.close (tie.spec snf-requires enum-told enum-told-2 returns returns-2)
