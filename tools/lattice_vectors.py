@@ -11,6 +11,7 @@ import math
 import sys
 
 from jobs import IDENTITY, Job, answer, f64, generated, i8
+from matrices import write
 
 INVERSION = tuple(-x for x in IDENTITY)
 SWAPPED = (0, 0, 1, 0, 1, 0, 1, 0, 0)
@@ -108,11 +109,8 @@ def main():
         jobs += [Job(j.lattice, j.t, c=j.c, rotations=j.rotations) for j in generated(oracle, 20, kind, count)]
     cases = [(record(j), line(oracle, j)) for j in jobs]
     cases = list(dict.fromkeys((r, l) for r, l in cases if l is not None))
-    with open(crate + "/stdin", "wb") as f:
-        f.write(b"".join(r for r, _ in cases))
-    with open(crate + "/stdout", "w") as f:
-        f.write("".join(l + "\n" for _, l in cases))
     lines = [l for _, l in cases]
+    write(crate, [r for r, _ in cases], lines)
     print(len(lines), "lattices;", *("%s: %d," % (l, lines.count(l)) for l in sorted(set(lines)) if l.startswith("refused")),
           "with -0:", sum("8000000000000000" in l for l in lines))
 

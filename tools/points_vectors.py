@@ -10,18 +10,9 @@ diagonals` prints, with zero points for the room behind them, or its refusal. Re
 """
 import random
 import struct
-import subprocess
 import sys
 
-CENTRINGS = [
-    [1, 0, 0, 0, 1, 0, 0, 0, 1],
-    [1, 0, 0, 0, 1, 1, 0, -1, 1],
-    [1, 0, -1, 0, 1, 0, 1, 0, 1],
-    [1, -1, 0, 1, 1, 0, 0, 0, 1],
-    [0, 1, 1, 1, 0, 1, 1, 1, 0],
-    [1, 0, 1, -1, 1, 1, 0, -1, 1],
-    [-1, 1, 1, 1, -1, 1, 1, 1, -1],
-]
+from matrices import CENTRINGS, det, diagonals, in_range, write
 
 # the designs of document 01, the limits of the determinant, and what lies beside refusal 8
 DESIGNS = [
@@ -43,11 +34,6 @@ DESIGNS = [
     [31] * 9,
     [0] * 9,
 ]
-
-
-def det(m):
-    a, b, c, d, e, f, g, h, i = m
-    return a * (e * i - h * f) - b * (d * i - g * f) + c * (d * h - g * e)
 
 
 def some_copies(rng, size):
@@ -100,14 +86,8 @@ def records():
     return out
 
 
-def diagonalised(oracle, ms):
-    lines = "".join(" ".join(map(str, m)) + "\n" for m in ms)
-    run = subprocess.run([oracle, "diagonals"], input=lines.encode(), capture_output=True, check=True)
-    return dict(zip(map(tuple, ms), run.stdout.decode().splitlines(), strict=True))
-
-
 def expected(answers, m, room):
-    if max(map(abs, m)) > 31:
+    if not in_range(m):
         return "refused 3"
     copies = abs(det(m))
     if not 1 <= copies <= 64:
@@ -125,12 +105,10 @@ def expected(answers, m, room):
 def main():
     oracle, crate = sys.argv[1:]
     rs = records()
-    answers = diagonalised(oracle, [m for m, _ in rs if max(map(abs, m)) <= 31 and 1 <= abs(det(m)) <= 64])
+    inside = [m for m, _ in rs if in_range(m) and 1 <= abs(det(m)) <= 64]
+    answers = dict(zip(map(tuple, inside), diagonals(oracle, inside), strict=True))
     lines = [expected(answers, m, room) for m, room in rs]
-    with open(crate + "/stdin", "wb") as f:
-        f.write(b"".join(struct.pack("<9bB", *m, room) for m, room in rs))
-    with open(crate + "/stdout", "w") as f:
-        f.write("".join(line + "\n" for line in lines))
+    write(crate, [struct.pack("<9bB", *m, room) for m, room in rs], lines)
     print("%d records, %d answered, %d of negative determinant, refused: %s" % (
         len(rs), sum(line.startswith("points") for line in lines),
         sum(det(m) < 0 and line.startswith("points") for (m, _), line in zip(rs, lines)),

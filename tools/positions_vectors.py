@@ -13,6 +13,7 @@ import math
 import sys
 
 from jobs import IDENTITY, STILL, Job, answer, f64, generated, i8
+from matrices import write
 
 INVERSION = tuple(-x for x in IDENTITY)
 TWOFOLD = (-1, 0, 0, 0, -1, 0, 0, 0, 1)
@@ -106,11 +107,8 @@ def main():
     found = [case(oracle, Job(t=j.t, shift=j.shift, sites=j.sites, operations=j.operations, images=j.images, targets=j.targets))
              for j in jobs]
     cases = list(dict.fromkeys(c for c in found if c is not None))
-    with open(crate + "/stdin", "wb") as f:
-        f.write(b"".join(r for r, _ in cases))
-    with open(crate + "/stdout", "w") as f:
-        f.write("".join(l + "\n" for _, l in cases))
     lines = [l for _, l in cases]
+    write(crate, [r for r, _ in cases], lines)
     print(len(lines), "symmetrisations;", *("%s: %d," % (l, lines.count(l)) for l in sorted(set(lines)) if l.startswith("refused")),
           "with -0:", sum("8000000000000000" in l for l in lines))
 

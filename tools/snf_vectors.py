@@ -10,18 +10,9 @@ refusal.
 """
 import random
 import struct
-import subprocess
 import sys
 
-CENTRINGS = [
-    [1, 0, 0, 0, 1, 0, 0, 0, 1],
-    [1, 0, 0, 0, 1, 1, 0, -1, 1],
-    [1, 0, -1, 0, 1, 0, 1, 0, 1],
-    [1, -1, 0, 1, 1, 0, 0, 0, 1],
-    [0, 1, 1, 1, 0, 1, 1, 1, 0],
-    [1, 0, 1, -1, 1, 1, 0, -1, 1],
-    [-1, 1, 1, 1, -1, 1, 1, 1, -1],
-]
+from matrices import CENTRINGS, det, diagonals, in_range, write
 
 # the designs of document 01 and what lies beside refusal 8
 DESIGNS = [
@@ -39,11 +30,6 @@ DESIGNS = [
     [31] * 9,
     [0] * 9,
 ]
-
-
-def det(m):
-    a, b, c, d, e, f, g, h, i = m
-    return a * (e * i - h * f) - b * (d * i - g * f) + c * (d * h - g * e)
 
 
 def singular(rng):
@@ -89,23 +75,14 @@ def matrices():
     return out
 
 
-def expected(oracle, inside):
-    lines = "".join(" ".join(map(str, m)) + "\n" for m in inside)
-    run = subprocess.run([oracle, "diagonals"], input=lines.encode(), capture_output=True, check=True)
-    return [line.split(" points")[0] for line in run.stdout.decode().splitlines()]
-
-
 def main():
     oracle, crate = sys.argv[1:]
     ms = matrices()
-    inside = [m for m in ms if max(map(abs, m)) <= 31]
-    answers = iter(expected(oracle, inside))
-    lines = [next(answers) if max(map(abs, m)) <= 31 else "refused 3" for m in ms]
+    inside = [m for m in ms if in_range(m)]
+    answers = iter([line.split(" points")[0] for line in diagonals(oracle, inside)])
+    lines = [next(answers) if in_range(m) else "refused 3" for m in ms]
     assert next(answers, None) is None
-    with open(crate + "/stdin", "wb") as f:
-        f.write(b"".join(struct.pack("<9b", *m) for m in ms))
-    with open(crate + "/stdout", "w") as f:
-        f.write("".join(line + "\n" for line in lines))
+    write(crate, [struct.pack("<9b", *m) for m in ms], lines)
     refused = [line for line in lines if line.startswith("refused")]
     print("%d matrices, %d of negative determinant, %d singular, %d refused with 8, %d with 3" % (
         len(ms), sum(det(m) < 0 for m in inside), sum(det(m) == 0 for m in inside),

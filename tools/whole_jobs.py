@@ -13,37 +13,30 @@ import struct
 import subprocess
 import sys
 
-IDENTITY = [1, 0, 0, 0, 1, 0, 0, 0, 1]
+from jobs import IDENTITY, f64, i8
+
 INVERSION = [-1, 0, 0, 0, -1, 0, 0, 0, -1]
 C_CENTRING = [1, -1, 0, 1, 1, 0, 0, 0, 1]
 I_CENTRING = [0, 1, 1, 1, 0, 1, 1, 1, 0]
 
 
-def i8(entries):
-    return struct.pack("<9b", *entries)
-
-
-def f64(*values):
-    return struct.pack("<%dd" % len(values), *values)
-
-
 def job(lattice=IDENTITY, t=IDENTITY, shift=(0, 0, 0), c=IDENTITY, sites=((63, (0, 0, 0)),),
         operations=((IDENTITY, (0, 0, 0)),), images=(0,), targets=((IDENTITY, (0, 0, 0)),),
         rotations=(IDENTITY,), candidates=((1, "a", "x,y,z"),), symprec=0.001):
-    b = b"L" + f64(*lattice) + b"T" + i8(t) + f64(*shift) + b"C" + i8(c)
+    b = b"L" + f64(lattice) + b"T" + i8(t) + f64(shift) + b"C" + i8(c)
     for element, p in sites:
-        b += b"S" + struct.pack("<i", element) + f64(*p)
+        b += b"S" + struct.pack("<i", element) + f64(p)
     for m, v in operations:
-        b += b"O" + i8(m) + f64(*v)
+        b += b"O" + i8(m) + f64(v)
     for image in images:
         b += b"P" + bytes([image])
     for m, v in targets:
-        b += b"G" + i8(m) + f64(*v)
+        b += b"G" + i8(m) + f64(v)
     for m in rotations:
         b += b"R" + i8(m)
     for multiplicity, letter, text in candidates:
         b += b"W" + struct.pack("<H", multiplicity) + letter.encode() + text.encode().ljust(64)
-    return b + b"N" + f64(symprec) + b"Z"
+    return b + b"N" + f64([symprec]) + b"Z"
 
 
 BOTH = ((IDENTITY, (0, 0, 0)), (INVERSION, (0, 0, 0)))

@@ -5,13 +5,13 @@ use mathlib.Core.Bool.{Bool, true, false, not}
 use mathlib.Core.Logic.{_⊎_, ⊎-elim}
 use native.Mathlib.Omega.{arith}
 use lib.Dec.{T, eqb, lit<}
-use Rattle.definitions.specs.declared.Verdict.the-variants.{Accepted}
+use Rattle.definitions.specs.declared.Verdict.the-variants.{Accepted, Refused}
 use Rattle.definitions.specs.Matrix.{Matrix}
-use Rattle.definitions.specs.Refusal.{Applies, Returns, Checked, accepted, refused}
+use Rattle.definitions.specs.Refusal.{Applies, Returns, Checked}
 use Rattle.definitions.specs.Checked.{numbered, FailAll, past}
 use Rattle.definitions.specs.Snf.{State, Run, Leaves}
 use Rattle.definitions.specs.Standardize.{inRange}
-use Rattle.definitions.specs.Calls.{snfConditions, pointsConditions, IsSnf}
+use Rattle.definitions.specs.Calls.{snfConditions, pointsConditions}
 use Rattle.math_matrix.specs.Laws.{Three}
 use Rattle.math_snf_laws.specs.Runs.{left-unit, not-negative, product}
 use Rattle.base_transformation.specs.Answers.{Ended, Ready}
@@ -19,12 +19,12 @@ use Rattle.base_transformation.specs.Lent.{points-facts}
 
 -- ---- the verdict of `snf`
 
-pub snf-accepts : (c : Matrix) (t : State) → Returns (snfConditions c) (IsSnf c) (accepted t) → (Leaves c → ⊥) × IsSnf c t
-unfolding Returns Checked numbered FailAll
-snf-accepts c t e = (past (snfConditions c) tt (e .0, tt) .1 .0, e .1)
+pub snf-accepts : (c : Matrix) → Checked (snfConditions c) Accepted → Leaves c → ⊥
+unfolding numbered FailAll
+snf-accepts c e = past (snfConditions c) tt e .1 .0
 
-pub snf-refuses : (c : Matrix) → inRange c ≡ true → (k : ℕ) → Returns (snfConditions c) (IsSnf c) (refused k) → Leaves c
-unfolding Returns Applies
+pub snf-refuses : (c : Matrix) → inRange c ≡ true → (k : ℕ) → Checked (snfConditions c) (Refused k) → Leaves c
+unfolding Checked Returns Applies
 snf-refuses c e k r = by (eqb 3 k) (eqb 8 k) (subst (λ (b : Bool). T (not b)) e) (r .0)
   where
     by : (a b : Bool) {P Q : Type 0} → (P → ⊥) → elim a as (λ (x : Bool). Type 0) [ true ↦ P ⊎ elim b as (λ (x : Bool). Type 0) [ true ↦ Q ⊎ ⊥ | false ↦ ⊥ ] | false ↦ elim b as (λ (x : Bool). Type 0) [ true ↦ Q ⊎ ⊥ | false ↦ ⊥ ] ] → Q

@@ -1,5 +1,5 @@
 -- Whole numbers in bits, and tests of them.
-use Prim.Native.Nat.{ℕ, suc, zero, _≤_, _<_, _^_, _/_, zero-le}
+use Prim.Native.Nat.{ℕ, suc, _≤_, _<_, _^_, _/_, zero-le}
 use mathlib.Core.Path.{_≡_, refl, sym, ap, _∙_}
 use native.Mathlib.Omega.{arith}
 use native.Mathlib.Nat.{div-le-self, div-zero}
@@ -10,16 +10,8 @@ use borrow.Author.Tests.{ltb-true, ltb-false, lt-leb, le-leb, leb-true}
 use Rattle.definitions.specs.Snf.{small}
 use Rattle.math_matrix.specs.Bounds.{abs-neg, fits-abs, back}
 use lib.Signed.{quotZ, mag, ltZ, leZ}
-use mir.Syntax.{w8, w16, w32, w64}
+use mir.Syntax.{w16, w32}
 use mir.Val.{SFits, hbits, toZ, ofZ}
-
--- ---- what fits
-
-pub fits-32 : (z : ℤ) → SFits w16 z → SFits w32 z
-fits-32 z h = record { sfits = omega (arith, h .sfits) }
-
-pub fits-64 : (z : ℤ) → SFits w32 z → SFits w64 z
-fits-64 z h = record { sfits = omega (arith, h .sfits) }
 
 -- a quotient cut toward zero is no larger than the dividend, and by 0 it is 0
 pub abs-quot : (a b : ℤ) → natAbs (quotZ a b) ≤ natAbs a
@@ -69,6 +61,3 @@ within n (negsuc k) e = sym (leb·suc-suc k n ∙ e)
 pub not-within : (n : ℕ) (x : ℤ) → leZ (negsuc n) x ≡ false → leZ (negsuc n) x ≡ leb (natAbs x) (suc n)
 not-within n (pos k) e = cc
 not-within n (negsuc k) e = sym (leb·suc-suc k n)
-
-pub fits-16 : (z : ℤ) → SFits w8 z → SFits w16 z
-fits-16 z h = record { sfits = omega (arith, h .sfits) }

@@ -2,4 +2,3 @@ pub mod Ints
 pub mod Grades
 pub mod Stages
 pub mod Pivots
-pub mod Entries

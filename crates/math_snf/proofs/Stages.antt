@@ -1,22 +1,24 @@
 -- A stage pass by pass, a run stage by stage, and what that makes of the verdict.
-use Prim.Native.Nat.{ℕ, suc, zero, _<_}
+use Prim.Native.Nat.{ℕ, suc, zero, _≤_, _<_, zero-le}
 use mathlib.Core.Path.{_≡_, refl, sym, ap, _∙_, subst}
 use mathlib.Core.Bool.{Bool, true, false, cond, not, _&&_, false≢true}
 use mathlib.Core.List.{List, [], _∷_, _++_, append-nil, append-assoc}
 use mathlib.Core.Option.{Option, none, some}
-use mathlib.Core.Logic.{_⊎_, inl, inr}
 use native.Mathlib.Omega.{arith}
-use lib.ListN.{length}
-use lib.Dec.{T, eqb, eqb·suc-zero, lit<}
+use lib.Dec.{eqb, eqb·suc-zero, lit<}
 use lib.IntN.{ℤ}
 use Rattle.definitions.specs.Lists.{all, each}
 use Rattle.definitions.specs.Matrix.{Matrix}
-use Rattle.definitions.specs.Refusal.{Applies, NoneOf, upto, precedence, Returns, accepted, refused}
-use Rattle.definitions.specs.Snf.{State, Place, Stage, empty, last, again, start, small, pivot, pass, Leaves}
-use Rattle.definitions.specs.SnfLaws.{stage-unique, stays}
+use Rattle.definitions.specs.declared.Verdict.the-variants.{Accepted, Refused}
+use Rattle.definitions.specs.Refusal.{Checked}
+use Rattle.definitions.specs.Checked.{holds, fails, untested, is-true, is-false, verdictOf, checked}
+use Rattle.definitions.specs.Snf.{State, Place, Stage, empty, last, again, start, small, sizeAt, pivot, pass, Leaves}
+use Rattle.definitions.specs.SnfLaws.{stays}
 use Rattle.definitions.specs.Standardize.{inRange}
 use Rattle.definitions.specs.Calls.{snfConditions, IsSnf}
 use Rattle.math_snf_laws.specs.Steps.{In, i00, i11, i22}
+use Rattle.math_snf_laws.specs.Pivot.{chosen}
+use Rattle.math_snf_laws.specs.Reduced.{falls}
 use Rattle.math_snf_laws.specs.Stages.{stage-found}
 use Rattle.math_snf.specs.Step.{grade, Graded, passAt, Ended, Ran}
 use Rattle.math_snf.proofs.Grades.{all-append}
@@ -49,44 +51,37 @@ stage-of (suc zero) h = i11
 stage-of (suc (suc zero)) h = i22
 stage-of (suc (suc (suc s))) h = absurd (omega arith)
 
-Ends : ℕ → State → Type 0
-Ends s t = (l : List (List ℤ)) × (u : State) × Stage s t l u
+-- what falls from pass to pass: one more than the pivot's magnitude where the next pass updates, and otherwise 0
+abbrev due : ℕ → State → Option Place → ℕ
+due s t none = 0
+due s t (some p) = cond (pass s p t .updated) (suc (sizeAt (t .d) p)) 0
 
-stage-ends : (s : ℕ) → s < 3 → (t : State) → Ends s t
-unfolding Ends
-stage-ends s h t = stage-found (stage-of s h) t
+due-falls : (s : ℕ) → s < 3 → (t : State) (p : Place) → pivot s (t .d) ≡ some p → due s (pass s p t .state) (pivot s (pass s p t .state .d)) ≤ sizeAt (t .d) p
+due-falls s h t p e = by (pivot s (pass s p t .state .d)) refl
+  where
+    i : In s s
+    i = stage-of s h
 
--- how many passes are left
-pub passes : ℕ → State → ℕ
-unfolding Ends
-passes zero t = length (stage-ends 0 (lit< tt) t .0)
-passes (suc zero) t = length (stage-ends 1 (lit< tt) t .0)
-passes (suc (suc s)) t = length (stage-ends 2 (lit< tt) t .0)
+    u : State
+    u = pass s p t .state
 
-passes-are : (s : ℕ) (h : s < 3) (t u : State) (l : List (List ℤ)) → Stage s t l u → passes s t ≡ length l
-unfolding passes Ends
-passes-are zero h t u l x = ap length (stage-unique (stage-ends 0 (lit< tt) t .2) x .0)
-passes-are (suc zero) h t u l x = ap length (stage-unique (stage-ends 1 (lit< tt) t .2) x .0)
-passes-are (suc (suc zero)) h t u l x = ap length (stage-unique (stage-ends 2 (lit< tt) t .2) x .0)
-passes-are (suc (suc (suc s))) h t u l x = absurd (omega arith)
+    at-pivot : (q : Place) → pivot s (u .d) ≡ some q → (b : Bool) → pass s q u .updated ≡ b → cond b (suc (sizeAt (u .d) q)) 0 ≤ sizeAt (t .d) p
+    at-pivot q f true c = falls s p t (chosen (t .d) p i e) q (chosen (u .d) q i f) c
+    at-pivot q f false c = zero-le
 
-passes-fall : (s : ℕ) → s < 3 → (t : State) (p : Place) → pivot s (t .d) ≡ some p → pass s p t .updated ≡ true → passes s (pass s p t .state) < passes s t
-unfolding Ends
-passes-fall s h t p e c =
-    let r = stage-ends s h (pass s p t .state) in
-    omega (arith, passes-are s h (pass s p t .state) (r .1) (r .0) (r .2), passes-are s h t (r .1) (pass s p t .assigned ∷ r .0) (again p e c (r .2)))
-
-true-false : {X : Type 0} {b : Bool} → b ≡ true → b ≡ false → X
-true-false e f = absurd (false≢true (sym f ∙ e))
+    by : (o : Option Place) → pivot s (u .d) ≡ o → due s u o ≤ sizeAt (t .d) p
+    by none f = zero-le
+    by (some q) f = at-pivot q f (pass s q u .updated) refl
 
 -- ---- the loop of a stage
 
--- The stage s, which began at t₀, has come to the grade g and the state t: it goes on from t as it would from t₀, or it has ended.
+-- The stage s, which began at t₀, goes on from t as it would from t₀, and what it has assigned is in range.
 pub record Going (s : ℕ) (t₀ t : State) : Type 0 where
   pub done : List (List ℤ)
   pub in-range : fine done ≡ true
   pub on : (rest : List (List ℤ)) (u : State) → Stage s t rest u → Stage s t₀ (done ++ rest) u
 
+-- the stage that has come to the grade g and the state t: it goes on, or it has ended
 abbrev pub At : ℕ → State → ℕ → State → Type 0
 At s t₀ zero t = Ended s t₀ true t
 At s t₀ (suc zero) t = Going s t₀ t
@@ -99,20 +94,14 @@ at-start s t = record { done = []; in-range = refl; on = λ rest u x. x }
 -- what is left for a stage to do
 abbrev pub left : ℕ → ℕ → State → ℕ
 left s zero t = 0
-left s (suc zero) t = suc (passes s t)
+left s (suc zero) t = suc (due s t (pivot s (t .d)))
 left s (suc (suc g)) t = 0
 
 module _ (s : ℕ) (low : s < 3) (t₀ t : State) where
-  -- one more pass, and the end after it
-  over : (b c : Bool) (x : List ℤ) (rest : List (List ℤ)) (u t′ : State) → Going s t₀ t → Stage s t (x ∷ rest) u → all small x ≡ b → (b && fine rest) ≡ c → (c ≡ true → t′ ≡ u) → Ended s t₀ c t′
-  over b c x rest u t′ g st e f k =
-      record {
-        assigned = g .done ++ (x ∷ rest);
-        «end» = u;
-        stage = g .on (x ∷ rest) u st;
-        in-range = fine-append (g .done) (x ∷ rest) ∙ rw (g .in-range, fine-cons x rest, e) f;
-        same-state = k;
-      }
+  -- some more passes, and the end
+  over : (rest : List (List ℤ)) (u t′ : State) (c : Bool) → Going s t₀ t → Stage s t rest u → fine rest ≡ c → (c ≡ true → t′ ≡ u) → Ended s t₀ c t′
+  over rest u t′ c g st f k =
+      record { assigned = g .done ++ rest; «end» = u; stage = g .on rest u st; in-range = fine-append (g .done) rest ∙ rw (g .in-range) f; same-state = k }
 
   more : (p : Place) → pivot s (t .d) ≡ some p → pass s p t .updated ≡ true → all small (pass s p t .assigned) ≡ true → Going s t₀ t → Going s t₀ (pass s p t .state)
   more p e c f g =
@@ -122,38 +111,22 @@ module _ (s : ℕ) (low : s < 3) (t₀ t : State) where
         on = λ rest u x. rw (append-assoc (g .done) (pass s p t .assigned ∷ []) rest) (g .on (pass s p t .assigned ∷ rest) u (again p e c x));
       }
 
-  -- a pass whose entries leave the range: the stage goes on, over whole numbers, to some end
-  astray : (p : Place) → pivot s (t .d) ≡ some p → (b : Bool) → pass s p t .updated ≡ b → all small (pass s p t .assigned) ≡ false → (t′ : State) → Going s t₀ t → Ended s t₀ false t′
-  unfolding Ends
-  astray p e true c f t′ g =
-      let r = stage-ends s low (pass s p t .state) in
-      over false false (pass s p t .assigned) (r .0) (r .1) t′ g (again p e c (r .2)) f refl (λ z. true-false z refl)
-  astray p e false c f t′ g = over false false (pass s p t .assigned) [] (pass s p t .state) t′ g (last p e c) f refl (λ z. true-false z refl)
-
-  -- no pivot is left
-  at-empty : pivot s (t .d) ≡ none → (t′ : State) → t′ ≡ t → Going s t₀ t → Ended s t₀ true t′
-  at-empty e t′ k g =
-      record {
-        assigned = g .done ++ [];
-        «end» = t;
-        stage = g .on [] t (empty e);
-        in-range = ap fine (append-nil (g .done)) ∙ g .in-range;
-        same-state = λ _. k;
-      }
-
+  -- Where a pass leaves the range the stage goes on, over whole numbers, to some end.
   graded-at : (p : Place) → pivot s (t .d) ≡ some p → (b c : Bool) → all small (pass s p t .assigned) ≡ b → pass s p t .updated ≡ c → (t′ : State) → (b ≡ true → t′ ≡ pass s p t .state) → Going s t₀ t → At s t₀ (cond b (cond c 1 0) 2) t′
-  unfolding all each
   graded-at p e true true f c t′ k g = rw (k refl) (more p e c f g)
-  graded-at p e true false f c t′ k g = over true true (pass s p t .assigned) [] (pass s p t .state) t′ g (last p e c) f refl k
-  graded-at p e false c f u t′ k g = astray p e c u f t′ g
+  graded-at p e true false f c t′ k g = over (pass s p t .assigned ∷ []) (pass s p t .state) t′ true g (last p e c) (fine-one (pass s p t .assigned) ∙ f) k
+  graded-at p e false true f c t′ k g =
+      let r = stage-found (stage-of s low) (pass s p t .state) in
+      over (pass s p t .assigned ∷ r .0) (r .1) t′ false g (again p e c (r .2)) (fine-cons (pass s p t .assigned) (r .0) ∙ rw f) (λ z. absurd (false≢true z))
+  graded-at p e false false f c t′ k g = over (pass s p t .assigned ∷ []) (pass s p t .state) t′ false g (last p e c) (fine-one (pass s p t .assigned) ∙ f) k
 
   -- A pass of the code takes the stage on.
   pub at-next : (g : ℕ) (t′ : State) → Going s t₀ t → Graded (passAt s t (pivot s (t .d))) g t′ → At s t₀ g t′
-  unfolding all
+  unfolding all each
   at-next g t′ w r = by (pivot s (t .d)) refl (r .same-grade) (r .same-state)
     where
       by : (o : Option Place) → pivot s (t .d) ≡ o → g ≡ grade (passAt s t o) → (all small (passAt s t o .assigned) ≡ true → t′ ≡ passAt s t o .state) → At s t₀ g t′
-      by none e a k = rw a (at-empty e t′ (k refl) w)
+      by none e a k = rw a (over [] t t′ true w (empty e) refl k)
       by (some p) e a k = rw a (graded-at p e (all small (pass s p t .assigned)) (pass s p t .updated) refl refl t′ k w)
 
   -- and leaves less of it
@@ -162,7 +135,7 @@ module _ (s : ℕ) (low : s < 3) (t₀ t : State) where
   left-falls g t′ r = by (pivot s (t .d)) refl (r .same-grade) (r .same-state)
     where
       pick : (p : Place) → pivot s (t .d) ≡ some p → (b c : Bool) → pass s p t .updated ≡ c → (b ≡ true → t′ ≡ pass s p t .state) → left s (cond b (cond c 1 0) 2) t′ < left s 1 t
-      pick p e true true c k = rw (k refl) (omega (arith, passes-fall s low t p e c))
+      pick p e true true c k = rw (k refl, e, c) (omega (arith, due-falls s low t p e))
       pick p e true false c k = omega arith
       pick p e false c u k = omega arith
 
@@ -187,11 +160,10 @@ record Follows (s : ℕ) (u : State) (b c : Bool) (t′ : State) : Type 0 where
   same-state : (b && c) ≡ true → t′ ≡ «end»
 
 follow : (s : ℕ) → s < 3 → (u t t′ : State) (b c : Bool) → (b ≡ true → t ≡ u) → Ended s t c t′ → Follows s u b c t′
-unfolding Ends
 follow s low u t t′ true c k w = subst (λ (x : State). Follows s x true c t′) (k refl) (record { assigned = w .assigned; «end» = w .«end»; stage = w .stage; in-range = w .in-range; same-state = w .same-state })
 follow s low u t t′ false c k w =
-    let r = stage-ends s low u in
-    record { assigned = r .0; «end» = r .1; stage = r .2; in-range = refl; same-state = λ z. true-false z refl }
+    let r = stage-found (stage-of s low) u in
+    record { assigned = r .0; «end» = r .1; stage = r .2; in-range = refl; same-state = λ z. absurd (false≢true z) }
 
 pub ran : (m : Matrix) (t₁ t₂ t₃ : State) (a b c : Bool) → Ended 0 (start m) a t₁ → Ended 1 t₁ b t₂ → Ended 2 t₂ c t₃ → Ran m (a && b && c) t₃
 ran m t₁ t₂ t₃ a b c x y z =
@@ -215,30 +187,22 @@ ran m t₁ t₂ t₃ a b c x y z =
 
 -- ---- the verdict
 
-no-entry : (m : Matrix) → inRange m ≡ true → T (not (inRange m)) ⊎ ⊥ → ⊥
-no-entry m e (inl h) = rw e at h
-no-entry m e (inr h) = h
+no-leave : {m : Matrix} {t : State} → Ran m true t → Leaves m → ⊥
+no-leave r = stays (r .run) (rw (r .in-range) tt)
 
-no-leave : {m : Matrix} {t : State} → Ran m true t → Leaves m ⊎ ⊥ → ⊥
-no-leave r (inl x) = stays (r .run) (rw (r .in-range) tt) x
-no-leave r (inr h) = h
+module _ (m : Matrix) where
+  pub refuses-entry : inRange m ≡ false → Checked (snfConditions m) (Refused 3)
+  unfolding verdictOf
+  refuses-entry e = checked (snfConditions m) (is-true (ap not e), (untested, tt)) (Refused 3) refl
 
--- no refusal concerns a number that the call does not have
-abbrev never : ⊥ → ⊥
-never x = x
+  module _ (t : State) (e : inRange m ≡ true) where
+    pub refuses-range : Ran m false t → Checked (snfConditions m) (Refused 8)
+    unfolding verdictOf
+    refuses-range r = checked (snfConditions m) (is-false (ap not e), (holds (r .run, rw (r .in-range) tt), tt)) (Refused 8) refl
 
-pub accepts : (m : Matrix) (t : State) → inRange m ≡ true → Ran m true t → Returns (snfConditions m) (IsSnf m) (accepted t)
-unfolding Returns NoneOf Applies precedence
-accepts m t e r = (
-  (never, (never, (no-entry m e, (never, (never, (never, (never, (no-leave r, (never, (never, (never, (never, (never, tt))))))))))))),
-  (r .run, sym (r .same-state refl)),
-)
-
-pub refuses-entry : (m : Matrix) → inRange m ≡ false → Returns (snfConditions m) (IsSnf m) (refused 3)
-unfolding Returns NoneOf Applies precedence upto
-refuses-entry m e = (inl (rw e tt), (never, (never, tt)))
-
-pub refuses-range : (m : Matrix) (t : State) → inRange m ≡ true → Ran m false t → Returns (snfConditions m) (IsSnf m) (refused 8)
-unfolding Returns NoneOf Applies precedence upto
-refuses-range m t e r =
-    (inl (r .run, rw (r .in-range) tt), (never, (never, (no-entry m e, (never, (never, (never, (never, tt))))))))
+    pub accepts : Ran m true t → Checked (snfConditions m) Accepted × IsSnf m t
+    unfolding verdictOf
+    accepts r = (
+      checked (snfConditions m) (is-false (ap not e), (fails (no-leave r), tt)) Accepted refl,
+      (r .run, sym (r .same-state refl)),
+    )

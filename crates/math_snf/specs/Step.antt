@@ -1,8 +1,8 @@
 -- What the steps of a pass say of a state: the definition's pass, and how far it went.
 use Prim.Native.Nat.{ℕ, _<_}
 use mathlib.Core.Path.{_≡_}
-use mathlib.Core.Bool.{Bool, true, false, cond}
-use mathlib.Core.List.{List, []}
+use mathlib.Core.Bool.{Bool, true, cond}
+use mathlib.Core.List.{List}
 use mathlib.Core.Option.{Option, none, some}
 use lib.Dec.{leb, ltb, eqb}
 use lib.IntN.{ℤ, pos, _-ℤ_, _*ℤ_}
@@ -11,6 +11,7 @@ use Rattle.math_snf.specs.declared.Pivot.{Pivot}
 use Rattle.math_snf.specs.declared.Pivot.the-variants.{At, Nothing}
 use Rattle.definitions.specs.Matrix.{Matrix, at, mat}
 use Rattle.definitions.specs.Snf.{State, Pass, Place, Stage, small, lesser, clearRow, clearColumn, pass, Run, allAssigned}
+use Rattle.math_snf_laws.specs.Cases.{plain}
 
 -- an assigned entry as 16 bits hold it: 512 stands for one that has left -511..511
 unfoldable pub kept : ℤ → ℤ
@@ -24,10 +25,6 @@ keptColumn j k s m = mat (λ a b. cond (eqb b j) (kept (at m a b -ℤ k *ℤ at 
 
 abbrev pub dlr : Matrix → Matrix → Matrix → State
 dlr d l r = record { d = d; l = l; r = r }
-
--- a pass that has assigned nothing yet
-abbrev pub begin : State → Pass
-begin t = record { state = t; assigned = []; updated = false }
 
 -- 2: an assigned entry has left the range; otherwise 1 where the pass has updated, and 0
 abbrev pub grade : Pass → ℕ
@@ -67,7 +64,7 @@ leastInRow s m i o = lesserFrom s m (i, 0) (lesserFrom s m (i, 1) (lesserFrom s 
 
 -- the next pass of the stage s, which does nothing where no pivot is left
 abbrev pub passAt : ℕ → State → Option Place → Pass
-passAt s t none = begin t
+passAt s t none = plain t
 passAt s t (some p) = pass s p t
 
 -- The stage s from t, by its definition, assigns entries in range only where b; where it does, the code has come to its end.

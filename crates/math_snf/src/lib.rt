@@ -2,18 +2,19 @@ ghost use mathlib.Core.Path.{_≡_};
 ghost use mathlib.Core.Bool.{_&&_, cond};
 ghost use mathlib.Core.List.{[], _∷_};
 ghost use Prim.Native.Nat.{_<_};
-ghost use lib.Dec.{leb, eqb};
+ghost use lib.Dec.{eqb};
 ghost use lib.IntN.{pos, natAbs, _-ℤ_, _*ℤ_};
 ghost use lib.Signed.{quotZ};
 ghost use Rattle.definitions.specs.Lists.{all};
 ghost use Rattle.definitions.specs.Matrix.{Matrix, at, item, three, identity};
 ghost use Rattle.definitions.specs.Snf.{State, small, swapped, swapRows, swapColumns, row, column, lesser, pivot, moved, signed, cleared, diagonal};
-ghost use Rattle.math_snf.specs.Step.{kept, keptRow, keptColumn, worse, dlr, begin, Graded, rowBelow, columnRight, placeOf, Inside, lesserFrom, leastInRow, passAt, Ended, Ran};
-ghost use Rattle.math_snf.specs.Call.{zeroMatrix, Cleared};
-ghost use Rattle.definitions.specs.Standardize.{inRange};
-ghost use Rattle.definitions.specs.Calls.{snfConditions, IsSnf};
-ghost use Rattle.definitions.specs.Refusal.{Returns, outcomeOf};
+ghost use Rattle.math_snf_laws.specs.Cases.{plain};
+ghost use Rattle.math_snf.specs.Step.{kept, keptRow, keptColumn, worse, dlr, Graded, rowBelow, columnRight, placeOf, Inside, lesserFrom, leastInRow, passAt, Ended, Ran};
+ghost use Rattle.math_snf.specs.Call.{zeroMatrix, Answered};
+ghost use Rattle.definitions.specs.Calls.{snfConditions};
+ghost use Rattle.definitions.specs.Refusal.{Checked};
 ghost use Rattle.definitions.specs.declared.Verdict.the-variants.{Refused};
+use base_checks::in_range;
 use definitions::Verdict;
 
 // D, L or R
@@ -342,7 +343,7 @@ fn by_pivot(m: Mat, i: usize, j: usize, s: usize) -> i32
 
 fn clear_row(d: &mut Mat, l: &mut Mat, s: usize, i: usize) -> usize
     requires { ⌜ (s < 3) × (i < 3) ⌝ }
-    ensures { λ g. ⌜ ((r : Matrix) → Graded (rowBelow s i (begin (dlr (now (d .entry)) (now (l .entry)) r))) g (dlr (now (d .exit)) (now (l .exit)) r)) ⌝ }
+    ensures { λ g. ⌜ ((r : Matrix) → Graded (rowBelow s i (plain (dlr (now (d .entry)) (now (l .entry)) r))) g (dlr (now (d .exit)) (now (l .exit)) r)) ⌝ }
 {
     if i <= s {
         return 0;
@@ -362,7 +363,7 @@ fn clear_row(d: &mut Mat, l: &mut Mat, s: usize, i: usize) -> usize
 
 fn clear_column(d: &mut Mat, r: &mut Mat, s: usize, j: usize) -> usize
     requires { ⌜ (s < 3) × (j < 3) ⌝ }
-    ensures { λ g. ⌜ ((l : Matrix) → Graded (columnRight s j (begin (dlr (now (d .entry)) l (now (r .entry))))) g (dlr (now (d .exit)) l (now (r .exit)))) ⌝ }
+    ensures { λ g. ⌜ ((l : Matrix) → Graded (columnRight s j (plain (dlr (now (d .entry)) l (now (r .entry))))) g (dlr (now (d .exit)) l (now (r .exit)))) ⌝ }
 {
     if j <= s {
         return 0;
@@ -443,27 +444,6 @@ fn widened(m: [[i8; 3]; 3]) -> Mat
     [p, q, t]
 }
 
-fn is_entry(x: i8) -> bool
-    ensures { λ r. ⌜ r ≡ leb (natAbs x) 31 ⌝ }
-{
-    -31 <= x && x <= 31
-}
-
-fn row_in_range(x: [i8; 3]) -> bool
-    ensures { λ r. ⌜ r ≡ all (λ n. leb (natAbs n) 31) (three (λ j. item x j)) ⌝ }
-{
-    both(is_entry(x[0]), both(is_entry(x[1]), is_entry(x[2])))
-}
-
-fn in_range(m: [[i8; 3]; 3]) -> bool
-    ensures { λ r. ⌜ r ≡ inRange m ⌝ }
-{
-    both(
-        row_in_range(m[0]),
-        both(row_in_range(m[1]), row_in_range(m[2])),
-    )
-}
-
 fn zero() -> Mat
     ensures { λ r. ⌜ r ≡ zeroMatrix ⌝ }
 {
@@ -508,8 +488,8 @@ pub fn snf(
     l: &mut [[i16; 3]; 3],
     r: &mut [[i16; 3]; 3],
 ) -> Verdict
-    ensures { λ v. ⌜ Returns (snfConditions m) (IsSnf m) (outcomeOf (record { d = now (d .exit); l = now (l .exit); r = now (r .exit) }) v) ⌝ }
-    ensures { λ v. ⌜ Cleared v (record { d = now (d .exit); l = now (l .exit); r = now (r .exit) }) ⌝ }
+    ensures { λ v. ⌜ Checked (snfConditions m) v ⌝ }
+    ensures { λ v. ⌜ Answered m v (record { d = now (d .exit); l = now (l .exit); r = now (r .exit) }) ⌝ }
 {
     if !in_range(m) {
         return refuse(d, l, r, 3);

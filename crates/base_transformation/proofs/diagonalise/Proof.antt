@@ -17,8 +17,7 @@ returns : tie.Need-returns
 returns c =
     let s = c .before .before .before .before .before .before in
     let f = c .before .before .snf in
-    let x = snf-accepts (s .args .c) (record { d = f .last .1 .0; l = f .last .1 .1 .0; r = f .last .1 .1 .1 .0 }) (rw (c .enum-told .given .1) at (f .ensures .0)) in
-    (x .0, (f .last .1 .1 .1 .0, x .1))
+    (snf-accepts (s .args .c) (rw (c .enum-told .given .1) at (f .ensures .0)), (f .last .1 .1 .1 .0, rw (c .enum-told .given .1) at (f .ensures .1)))
 
 returns-2 : tie.Need-returns-2
 returns-2 c =

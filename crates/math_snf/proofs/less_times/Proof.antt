@@ -4,18 +4,18 @@ use mir.Syntax.{w16, w32, w64}
 use mir.Val.{SFits}
 use mir.ValLaws.{toZ-ofZ}
 use Rattle.math_matrix.specs.Bounds.{abs-fits, abs-mul-le, abs-sub, fits-abs}
-use Rattle.math_snf.proofs.Ints.{fits-32, fits-64}
+use mir.Facts.{sfits-widen}
 use Rattle.math_snf.proofs.less_times.Statement.{statement}
 use Rattle.math_snf.proofs.less_times.Tie as tie
 
 x64 : (c : tie.Start) → SFits w64 (c .args .x)
-x64 c = fits-64 (c .args .x) (fits-32 (c .args .x) (c .fits .x))
+x64 c = sfits-widen {w = w16} tt (c .fits .x)
 
 k64 : (c : tie.Start) → SFits w64 (c .args .k)
-k64 c = fits-64 (c .args .k) (c .fits .k)
+k64 c = sfits-widen {w = w32} tt (c .fits .k)
 
 y64 : (c : tie.Start) → SFits w64 (c .args .y)
-y64 c = fits-64 (c .args .y) (fits-32 (c .args .y) (c .fits .y))
+y64 c = sfits-widen {w = w16} tt (c .fits .y)
 
 fits₁ : (c : tie.Start) → SFits w64 (c .args .k *ℤ c .args .y)
 fits₁ c = fits-abs w64 (c .args .k *ℤ c .args .y) (omega (arith, abs-mul-le (c .args .k) (c .args .y) 2147483648 32768 (abs-fits w32 (c .args .k) (c .fits .k)) (abs-fits w16 (c .args .y) (c .fits .y))))

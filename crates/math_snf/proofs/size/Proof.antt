@@ -1,35 +1,31 @@
 use native.Mathlib.Omega.{arith}
-use Prim.Native.Nat.{suc}
-use native.Mathlib.Nat.{zero-add}
-use borrow.Author.Tests.{ltb-true}
-use mathlib.Core.Path.{_≡_, refl, ap}
+use mathlib.Core.Path.{_≡_, sym, ap, _∙_}
 use mathlib.Core.Bool.{true, false}
-use lib.IntN.{ℤ, pos, negsuc, natAbs, _-ℤ_}
-use lib.Signed.{ltZ}
+use lib.IntN.{ℤ, pos, natAbs, _-ℤ_}
+use lib.Signed.{ltZ, pos-natAbs}
 use mir.Syntax.{w16, w32}
 use mir.Val.{SFits}
 use mir.ValLaws.{toZ-ofZ}
 use Rattle.math_matrix.specs.Bounds.{abs-fits, abs-sub, fits-abs}
-use Rattle.math_snf.proofs.Ints.{fits-32}
+use mir.Facts.{sfits-widen}
+use Rattle.base_checks.proofs.Laws.{abs-minus, minus-nonNeg, not-below}
 use Rattle.math_snf.proofs.size.Statement.{statement}
 use Rattle.math_snf.proofs.size.Tie as tie
 
 wide : (c : tie.Start) → SFits w32 (c .args .x)
-wide c = fits-32 (c .args .x) (c .fits .x)
+wide c = sfits-widen {w = w16} tt (c .fits .x)
 
 fits : (c : tie.Start) → SFits w32 (pos 0 -ℤ c .args .x)
 fits c = fits-abs w32 (pos 0 -ℤ c .args .x) (omega (arith, abs-sub (pos 0) (c .args .x), abs-fits w16 (c .args .x) (c .fits .x)))
 
 below : (x : ℤ) → ltZ x (pos 0) ≡ true → pos 0 -ℤ x ≡ pos (natAbs x)
-below (pos n) e = absurd (omega (arith, ltb-true n 0 e))
-below (negsuc n) e = ap pos (zero-add (suc n))
+below x e = sym (pos-natAbs (pos 0 -ℤ x) (minus-nonNeg x e)) ∙ ap pos (abs-minus x)
 
 above : (x : ℤ) → ltZ x (pos 0) ≡ false → x ≡ pos (natAbs x)
-above (pos n) e = refl
-above (negsuc n) e = cc
+above x e = sym (pos-natAbs x (not-below x e))
 
 cast-a : tie.Need-cast-a
-cast-a c = simp (toZ-ofZ, c .fits .x) (fits-32 (c .args .x) (c .fits .x))
+cast-a c = simp (toZ-ofZ, c .fits .x) (wide c)
 
 sub-result : tie.Need-sub-result
 sub-result c = simp (toZ-ofZ, c .before .fits .x, wide (c .before)) (fits (c .before))

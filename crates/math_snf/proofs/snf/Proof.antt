@@ -15,7 +15,9 @@ refuse-requires c κs = search needs
 
 returns : tie.Need-returns
 returns c =
-    rw (c .refuse .ensures .0) (refuses-entry (c .before .before .before .before .before .before .args .m) (sym (c .before .before .before .before .before .in-range .ensures) ∙ not-true (c .before .before .before .before .before .in-range .result) (c .before .before .before .before .if1 .taken)), c .refuse .ensures .1)
+    let s = c .before .before .before .before .before in
+    rw (c .refuse .ensures .0)
+    (refuses-entry (s .before .args .m) (sym (s .in-range .ensures) ∙ not-true (s .in-range .result) (c .before .before .before .before .if1 .taken)), c .refuse .ensures .1)
 
 run-requires : tie.Need-run-requires
 run-requires c κs = search needs
@@ -25,22 +27,22 @@ refuse-requires-2 c κs = search needs
 
 returns-2 : tie.Need-returns-2
 returns-2 c =
-    let x = c .before .before .before .before .before .before .before .before .before .before .in-range in
+    let s = c .before .before .before .before .before .before .before .before .before .before in
     let y = c .before .before .before .before .before .run in
+    let t = dlr (y .last .1 .0) (y .last .1 .1 .0) (y .last .1 .1 .1 .0) in
     rw (c .refuse2 .ensures .0) (
-      refuses-range (c .before .before .before .before .before .before .before .before .before .before .before .args .m) (dlr (c .before .before .before .before .before .run .last .1 .0) (c .before .before .before .before .before .run .last .1 .1 .0) (c .before .before .before .before .before .run .last .1 .1 .1 .0)) (sym (x .ensures) ∙ not-false (x .result) (c .before .before .before .before .before .before .before .before .before .if1 .left))
-          (subst (λ (b : Bool). Ran (c .before .before .before .before .before .before .before .before .before .before .before .args .m) b (dlr (c .before .before .before .before .before .run .last .1 .0) (c .before .before .before .before .before .run .last .1 .1 .0) (c .before .before .before .before .before .run .last .1 .1 .1 .0))) (not-true (y .result) (c .before .before .before .before .if2 .taken)) (y .ensures)),
+      refuses-range (s .before .args .m) t (sym (s .in-range .ensures) ∙ not-false (s .in-range .result) (c .before .before .before .before .before .before .before .before .before .if1 .left))
+          (subst (λ (b : Bool). Ran (s .before .args .m) b t) (not-true (y .result) (c .before .before .before .before .if2 .taken)) (y .ensures)),
       c .refuse2 .ensures .1,
     )
 
 returns-3 : tie.Need-returns-3
 returns-3 c =
-    let x = c .before .before .before .before .before .before .in-range in
-    let y = c .before .run in (
-      accepts (c .before .before .before .before .before .before .before .args .m) (dlr (c .before .run .last .1 .0) (c .before .run .last .1 .1 .0) (c .before .run .last .1 .1 .1 .0)) (sym (x .ensures) ∙ not-false (x .result) (c .before .before .before .before .before .if1 .left))
-          (subst (λ (b : Bool). Ran (c .before .before .before .before .before .before .before .args .m) b (dlr (c .before .run .last .1 .0) (c .before .run .last .1 .1 .0) (c .before .run .last .1 .1 .1 .0))) (not-false (y .result) (c .if2 .left)) (y .ensures)),
-      tt,
-    )
+    let s = c .before .before .before .before .before .before in
+    let y = c .before .run in
+    let t = dlr (y .last .1 .0) (y .last .1 .1 .0) (y .last .1 .1 .1 .0) in
+    accepts (s .before .args .m) t (sym (s .in-range .ensures) ∙ not-false (s .in-range .result) (c .before .before .before .before .before .if1 .left))
+    (subst (λ (b : Bool). Ran (s .before .args .m) b t) (not-false (y .result) (c .if2 .left)) (y .ensures))
 
 pub snf-spec : {M : Type 1} → statement M
 snf-spec =
