@@ -171,8 +171,8 @@ abbrev pub Leaves : Matrix → Type 0
 Leaves m = (r : Run m) × T (not (all small (allAssigned r)))
 
 -- "Its three diagonal numbers are reported as the invariant factors"
-abbrev pub diagonal : State → List ℤ
-diagonal t = three (λ i. at (t .d) i i)
+abbrev pub diagonal : Matrix → List ℤ
+diagonal d = three (λ i. at d i i)
 
 -- ---- points
 

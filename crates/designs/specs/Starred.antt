@@ -59,7 +59,7 @@ Holds (triplet text m q) = (t : Triplet) × Reads text t × T (inRange t) × (ro
 Holds (no-triplet text k) = Returns (textConditions text) NoAnswer (refused k)
 Holds (labelled ps n m ls ms) = Labels ps (siteMapping n m) ls × (map (λ l. count (eqb l) ls) (orbits ls) ≡ ms)
 Holds (no-permutation p k) = Returns (inverseConditions p (length p)) NoAnswer (refused k)
-Holds (diagonalised m ds) = (r : Run m) × (diagonal (r .third) ≡ ds)
+Holds (diagonalised m ds) = (r : Run m) × (diagonal (r .third .d) ≡ ds)
 Holds (no-diagonal c d k) = (det c ≡ d) × Returns (pointsConditions c 64) NoAnswer (refused k)
 
 -- coordinates padded with spaces to 64 bytes

@@ -7,7 +7,7 @@ ghost use lib.IntN.{pos, natAbs, _-ℤ_, _*ℤ_};
 ghost use lib.Signed.{quotZ};
 ghost use Rattle.definitions.specs.Lists.{all};
 ghost use Rattle.definitions.specs.Matrix.{Matrix, at, item, three, identity};
-ghost use Rattle.definitions.specs.Snf.{State, small, swapped, swapRows, swapColumns, row, column, lesser, pivot, moved, signed, cleared, diagonal};
+ghost use Rattle.definitions.specs.Snf.{small, swapped, swapRows, swapColumns, row, column, lesser, pivot, moved, signed, cleared, diagonal};
 ghost use Rattle.math_snf_laws.specs.Cases.{plain};
 ghost use Rattle.math_snf.specs.Step.{kept, keptRow, keptColumn, worse, dlr, Graded, rowBelow, columnRight, placeOf, Inside, lesserFrom, leastInRow, passAt, Ended, Ran};
 ghost use Rattle.math_snf.specs.Call.{zeroMatrix, Answered};
@@ -502,7 +502,7 @@ pub fn snf(
 
 // the diagonal of D
 pub fn invariant_factors(d: [[i16; 3]; 3]) -> [i16; 3]
-    ensures { λ r. ⌜ ((t : State) → t .d ≡ d → r ≡ diagonal t) ⌝ }
+    ensures { λ r. ⌜ r ≡ diagonal d ⌝ }
 {
     [d[0][0], d[1][1], d[2][2]]
 }

@@ -24,10 +24,9 @@ index-2-t17 : tie.Need-index-2-t17
 index-2-t17 c = search needs
 
 returns : tie.Need-returns
-returns c = λ t e.
+returns c =
     let s = c .before .before .before in
-    rw e
-    (simp (back w16 (at (s .args .t1) 0 0) (c .before .before .t7 .given), back w16 (at (s .args .t1) 1 1) (c .before .t12 .given), back w16 (at (s .args .t1) 2 2) (c .t17 .given)))
+    simp (back w16 (at (s .args .t1) 0 0) (c .before .before .t7 .given), back w16 (at (s .args .t1) 1 1) (c .before .t12 .given), back w16 (at (s .args .t1) 2 2) (c .t17 .given))
 
 pub invariant-factors-spec : {M : Type 1} → statement M
 invariant-factors-spec =
