@@ -71,7 +71,3 @@ crossOver u v d =
 -- whole numbers as floats
 abbrev pub realRow : List ℤ → List Float
 realRow r = three (λ j. realOf (getD r j (pos 0)))
-
--- three whole numbers over a fourth, each with one division
-abbrev pub overRow : ℤ → ℤ → ℤ → ℤ → List Float
-overRow x y z d = div binary64 (realOf x) (realOf d) ∷ div binary64 (realOf y) (realOf d) ∷ div binary64 (realOf z) (realOf d) ∷ []

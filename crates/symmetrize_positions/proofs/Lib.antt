@@ -3,6 +3,5 @@ pub mod Search
 pub mod Sums
 pub mod Cells
 pub mod Counts
-pub mod Exact
 pub mod Accepted
 pub mod Moved

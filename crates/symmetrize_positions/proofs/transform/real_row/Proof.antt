@@ -1,5 +1,7 @@
 -- `real_row`: each entry is exact as a float.
-use Rattle.symmetrize_positions.proofs.Exact.{exact}
+use native.Mathlib.Omega.{arith}
+use Rattle.definitions.specs.Matrix.{item}
+use Rattle.math_real.proofs.Exact.{exact}
 use borrow.Author.Needs.{needs}
 use Rattle.symmetrize_positions.proofs.transform.real_row.Statement.{statement}
 use Rattle.symmetrize_positions.proofs.transform.real_row.Tie as tie
@@ -8,19 +10,19 @@ array-copy-out-t5 : tie.Need-array-copy-out-t5
 array-copy-out-t5 c = search needs
 
 int-to-float-t6 : tie.Need-int-to-float-t6
-int-to-float-t6 c = let s = c .before .before in exact (s .args .t1) (s .pre) 0
+int-to-float-t6 c = let s = c .before .before in exact (item (s .args .t1) 0) (omega (arith, s .pre .small 0))
 
 array-copy-out-t9 : tie.Need-array-copy-out-t9
 array-copy-out-t9 c = search needs
 
 int-to-float-t10 : tie.Need-int-to-float-t10
-int-to-float-t10 c = let s = c .before .before .before .before in exact (s .args .t1) (s .pre) 1
+int-to-float-t10 c = let s = c .before .before .before .before in exact (item (s .args .t1) 1) (omega (arith, s .pre .small 1))
 
 array-copy-out-t13 : tie.Need-array-copy-out-t13
 array-copy-out-t13 c = search needs
 
 int-to-float-t14 : tie.Need-int-to-float-t14
-int-to-float-t14 c = let s = c .before .before .before .before .before .before in exact (s .args .t1) (s .pre) 2
+int-to-float-t14 c = let s = c .before .before .before .before .before .before in exact (item (s .args .t1) 2) (omega (arith, s .pre .small 2))
 
 returns : tie.Need-returns
 returns c = search needs
