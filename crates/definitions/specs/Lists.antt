@@ -44,12 +44,12 @@ unfoldable pub each : {A B : Type 0} → (A → List B) → List A → List B
 each f [] = []
 each f (a ∷ l) = f a ++ each f l
 
--- a holds of each element
+-- P holds of each element
 unfoldable pub Each : {A : Type 0} → (A → Type 0) → List A → Type 0
 Each P [] = Unit {0}
 Each P (a ∷ l) = P a × Each P l
 
--- a holds of one element at least
+-- P holds of one element at least
 unfoldable pub Some : {A : Type 0} → (A → Type 0) → List A → Type 0
 Some P [] = ⊥
 Some P (a ∷ l) = P a ⊎ Some P l
