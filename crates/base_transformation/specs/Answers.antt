@@ -9,15 +9,14 @@ use lib.IntN.{ℤ, pos, natAbs}
 use lib.Signed.{nonNeg}
 use Rattle.definitions.specs.declared.Verdict.{Verdict}
 use Rattle.definitions.specs.declared.Verdict.the-variants.{Accepted, Refused}
-use Rattle.definitions.specs.Refusal.{padded}
+use Rattle.definitions.specs.Refusal.{padded, lentValue}
 use Rattle.definitions.specs.Matrix.{Matrix, at, mat, three, det}
 use Rattle.definitions.specs.Snf.{Run, Leaves, points}
 use Rattle.definitions.specs.Calls.{IsSnf}
 
 -- a lent matrix after a call: the answer, or zero where it is refused
 abbrev pub MatrixLent : Matrix → Matrix → Verdict → Type 0
-MatrixLent answer exit Accepted = exit ≡ answer
-MatrixLent answer exit (Refused k) = exit ≡ mat (λ i j. pos 0)
+MatrixLent answer exit v = exit ≡ lentValue (mat (λ i j. pos 0)) answer v
 
 abbrev pub zeroPoint : List ℤ
 zeroPoint = three (λ i. pos 0)

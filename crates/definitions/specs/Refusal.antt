@@ -123,6 +123,11 @@ unfoldable pub Checked : List Condition → Verdict → Type 0
 unfolding Returns
 Checked cs v = Returns cs (λ (u : Unit {0}). Unit {0}) (outcomeOf tt v)
 
+-- A lent value after the call: the answer if it accepts, zero if it refuses.
+abbrev pub lentValue : {A : Type 0} → A → A → Verdict → A
+lentValue zero answer Accepted = answer
+lentValue zero answer (Refused k) = zero
+
 -- a list at the front of so many cells, the others zero
 abbrev pub padded : {A : Type 0} → A → List A → ℕ → List A
 padded zero front room = front ++ replicate (room - length front) zero

@@ -2,8 +2,8 @@
 use mathlib.Core.Bool.{Bool, not, _&&_}
 use mathlib.Core.List.{List, map}
 use lib.Ieee.{eq}
+use Rattle.definitions.specs.Refusal.{lentValue}
 use Rattle.definitions.specs.declared.Verdict.{Verdict}
-use Rattle.definitions.specs.declared.Verdict.the-variants.{Accepted, Refused}
 use Rattle.definitions.specs.Matrix.{Matrix, mat}
 use Rattle.definitions.specs.Real.{RealMatrix, zeroF, real, mulF, transposeF, sumM, inverseOfC, inverseF, detF}
 use Rattle.definitions.specs.Symmetrization.{conventionalBasis, symmetrizedBasis}
@@ -16,8 +16,7 @@ zeros = mat (λ i j. zeroF)
 
 -- the matrix of an accepted call; after a refusal "all lent output is zero"
 abbrev pub ifAccepted : Verdict → RealMatrix → RealMatrix
-ifAccepted Accepted m = m
-ifAccepted (Refused k) m = zeros
+ifAccepted v m = lentValue zeros m v
 
 -- the symmetrised conventional basis of the lattice l under the rotations rs
 abbrev pub newOf : RealMatrix → Matrix → Matrix → List Matrix → RealMatrix
