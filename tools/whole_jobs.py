@@ -104,7 +104,7 @@ def outcome(lines):
     return "accepted (record { %s })" % "; ".join("%s = %s" % f for f in fields)
 
 
-HEADER = """-- Small whole jobs: their bytes, and what the Rust answers to them over the stand-in arithmetic. Made by tools/whole_jobs.py; not written by hand.
+HEADER = """-- Small whole jobs: their bytes and their outcomes: accepted, 11, 12 and 13 as the Rust gives them over the stand-in arithmetic, 1 to 10 by document 01. Made by tools/whole_jobs.py; not written by hand.
 use Prim.Native.Nat.{ℕ}
 use mathlib.Core.Path.{refl}
 use mathlib.Core.List.{List, [], _∷_}

@@ -504,5 +504,8 @@ pub fn snf(
 pub fn invariant_factors(d: [[i16; 3]; 3]) -> [i16; 3]
     ensures { λ r. ⌜ r ≡ diagonal d ⌝ }
 {
-    [d[0][0], d[1][1], d[2][2]]
+    let first = d[0][0];
+    let second = d[1][1];
+    let third = d[2][2];
+    [first, second, third]
 }
