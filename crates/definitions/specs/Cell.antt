@@ -2,15 +2,15 @@
 use Prim.Native.Nat.{ℕ}
 use mathlib.Core.List.{List, map}
 use lib.ListN.{replicate}
-use lib.IntN.{ℤ, natAbs}
+use lib.IntN.{ℤ}
 use lib.Ieee.{Float, binary64, rem}
 use Rattle.definitions.specs.declared.Position.{Position}
 use Rattle.definitions.specs.Lists.{each, upTo}
-use Rattle.definitions.specs.Matrix.{Matrix, det, item}
+use Rattle.definitions.specs.Matrix.{Matrix, item}
 use Rattle.definitions.specs.Real.{oneF, origin, realOf, applyF, addP, subP, mapP, inverseOfC}
 
--- reduction of a coordinate: "% 1, sign kept"
-abbrev pub reduced : Float → Float
+-- reduction of a coordinate: "% 1, sign kept". Nothing but the position of a copy turns on it.
+unfoldable pub reduced : Float → Float
 reduced v = rem binary64 v oneF
 
 abbrev pub pointOf : List ℤ → Position
@@ -35,6 +35,7 @@ unfoldable pub siteMapping : ℕ → ℕ → List ℕ
 unfolding each
 siteMapping n m = each (λ i. replicate m i) (upTo n)
 
--- "|det C|": the number of copies of a site
-abbrev pub copies : Matrix → ℕ
-copies c = natAbs (det c)
+-- each listed site's element is its primitive site's: n runs of m
+unfoldable pub listedElements : List ℤ → ℕ → List ℤ
+unfolding each
+listedElements es m = each (λ e. replicate m e) es

@@ -1,15 +1,17 @@
 -- "Coordinates": the grammar as a tree and its print, and the tree's meaning.
-use Prim.Native.Nat.{ℕ, _+_, _*_, _/_}
+use Prim.Native.Nat.{ℕ, suc, _+_, _*_, _/_, _^_, _≤_, _<_}
 use mathlib.Core.Path.{_≡_}
 use mathlib.Core.Bool.{Bool, true, false, not, _&&_, cond}
 use mathlib.Core.List.{List, [], _∷_, _++_, map, foldl}
-use lib.Dec.{T, leb, ltb, eqb}
-use lib.IntN.{ℤ, pos, negℤ, natAbs, _+ℤ_, _*ℤ_}
-use lib.Ieee.{Float, binary64, add, div}
+use lib.Dec.{T, ltb, eqb}
+use lib.IntN.{ℤ, pos, negsuc, negℤ, _+ℤ_, _*ℤ_}
+use lib.ListN.{length}
+use lib.Ieee.{Float, binary64, add, div, round}
 use Rattle.definitions.specs.declared.Position.{Position}
 use Rattle.definitions.specs.Lists.{all, each, those}
+use Rattle.definitions.specs.Limits as Limits
 use Rattle.definitions.specs.Matrix.{Matrix, dot}
-use Rattle.definitions.specs.Real.{zeroF, realOf}
+use Rattle.definitions.specs.Real.{zeroF, realOf, unitsOf, negative}
 
 -- ---- the tree
 
@@ -166,7 +168,7 @@ originOf t = record { x = constant (t .first); y = constant (t .second); z = con
 -- no summed coefficient "leaves -31..31"
 unfoldable pub inRange : Triplet → Bool
 unfolding all rows
-inRange t = all (all (λ e. leb (natAbs e) 31)) (rows t)
+inRange t = Limits.inRange (rows t)
 
 -- The string passes refusal 6: it is "in the grammar", and no summed coefficient leaves the range.
 abbrev pub Readable : List ℕ → Type 0
@@ -200,4 +202,43 @@ exactConstant t = sumZ (map (signedBy (λ i. 2520 / denominator i * numerator i)
 abbrev pub RowsMeanTheTriplet : Type 0
 RowsMeanTheTriplet =
     (t : Term) (a b c : ℤ) (n : ℕ) →
-    termValue a b c n t ≡ pos 2520 *ℤ dot (coefficient x t) (coefficient y t) (coefficient z t) a b c +ℤ pos n *ℤ exactConstant t
+    termValue a b c n t
+    ≡ pos 2520 *ℤ dot (coefficient x t) (coefficient y t) (coefficient z t) a b c +ℤ pos n *ℤ exactConstant t
+
+-- ---- the origin against IEEE 754
+
+abbrev pub isConstant : Item → Bool
+isConstant (axis a) = false
+isConstant (times n a) = false
+isConstant (whole n) = true
+isConstant (fraction n d) = true
+
+-- the constants of a term, in order
+unfoldable pub constants : Term → List Signed
+unfolding those
+constants t = those (λ i. isConstant (itemOf i)) (items t)
+
+-- a whole number over d, rounded once to nearest; a zero has no sign
+abbrev pub rounded : ℤ → ℕ → Float
+rounded (pos n) d = round binary64 false n d
+rounded (negsuc n) d = round binary64 true (suc n) d
+
+-- a constant: its exact signed fraction, rounded once
+abbrev pub constantValue : Signed → Float
+constantValue i = rounded (signedBy numerator i) (denominator (itemOf i))
+
+-- To be proved: a term's origin is the left-to-right sum of its constants from +0, each its exact fraction rounded once
+-- ..
+abbrev pub OriginIsTheSum : Type 0
+OriginIsTheSum = (t : Term) → T (isTerm t) → constant t ≡ foldl (add binary64) zeroF (map constantValue (constants t))
+
+-- .. of which a whole one is exact ..
+abbrev pub WholeConstantsAreExact : Type 0
+WholeConstantsAreExact = (n : ℕ) → n < 10 → (unitsOf (constantValue (plus (whole n))) ≡ n * 2 ^ 1074)
+    × (unitsOf (constantValue (minus (whole n))) ≡ n * 2 ^ 1074)
+    × (negative (constantValue (plus (whole n))) ≡ false)
+    × (negative (constantValue (minus (whole n))) ≡ ltb 0 n)
+
+-- .. and so, with one constant at the most, it is the exact sum, rounded once.
+abbrev pub OriginIsRoundedOnce : Type 0
+OriginIsRoundedOnce = (t : Term) → T (isTerm t) → length (constants t) ≤ 1 → constant t ≡ rounded (exactConstant t) 2520

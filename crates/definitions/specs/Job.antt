@@ -10,6 +10,7 @@ use lib.IntN.{ℤ, pos, negsuc}
 use lib.Ieee.{Float, binary64, ofBits}
 use Rattle.definitions.specs.declared.Position.{Position}
 use Rattle.definitions.specs.Lists.{all, each}
+use Rattle.definitions.specs.Limits.{most-bytes, text-bytes}
 use Rattle.definitions.specs.Matrix.{Matrix, mat}
 use Rattle.definitions.specs.Real.{RealMatrix}
 
@@ -66,7 +67,7 @@ abbrev pub holdsOperation : OperationPart → Bool
 holdsOperation o = signeds 9 1 (o .rotation) && unsigneds 3 8 (o .translation)
 
 abbrev pub holdsCandidate : CandidatePart → Bool
-holdsCandidate w = unsigned 2 (w .multiplicity) && unsigned 1 (w .letter) && unsigneds 64 1 (w .text)
+holdsCandidate w = unsigned 2 (w .multiplicity) && unsigned 1 (w .letter) && unsigneds text-bytes 1 (w .text)
 
 -- every operand holds its number
 unfoldable pub holdsParts : Parts → Bool
@@ -98,13 +99,25 @@ complement n (negsuc a) = 256 ^ n - suc a
 abbrev pub signedBytes : ℕ → ℤ → List ℕ
 signedBytes n v = bytes n (complement n v)
 
--- "`L` lattice, 9 f64 column by column. `T` 9 i8 row by row, 3 f64 shift. `C` 9 i8. `S` per site: i32 element, 3 f64. `O` per operation: 9 i8, 3 f64. `P` per entry: one u8 image.
--- `G` per target: as O. `R` per conventional rotation: 9 i8. `W` per candidate: u16 multiplicity, u8 letter, 64 bytes coordinates. `N` f64 symprec. `Z` ends."
+-- "`L` lattice, 9 f64 column by column. `T` 9 i8 row by row, 3 f64 shift. `C` 9 i8. `S` per site: i32 element, 3 f64.
+-- `O` per operation: 9 i8, 3 f64. `P` per entry: one u8 image.
+-- `G` per target: as O. `R` per conventional rotation: 9 i8. `W` per candidate: u16 multiplicity, u8 letter, 64 bytes
+-- coordinates. `N` f64 symprec. `Z` ends."
 abbrev pub floats : List ℕ → List ℕ
 floats = each (bytes 8)
 
 abbrev pub entries : List ℤ → List ℕ
 entries = each (signedBytes 1)
+
+abbrev pub latticeCommand : List ℕ → List ℕ
+latticeCommand l = 76 ∷ floats l
+
+abbrev pub transformation : List ℤ → List ℕ → List ℕ
+transformation t shift = 84 ∷ entries t ++ floats shift
+
+-- the setting
+abbrev pub centring : List ℤ → List ℕ
+centring c = 67 ∷ entries c
 
 abbrev pub site : SitePart → List ℕ
 site s = 83 ∷ signedBytes 4 (s .element) ++ floats (s .position)
@@ -125,9 +138,9 @@ candidate w = 87 ∷ bytes 2 (w .multiplicity) ++ bytes 1 (w .letter) ++ each (b
 unfoldable pub encode : Parts → List ℕ
 unfolding each bytes
 encode p =
-    (76 ∷ floats (p .lattice))
-    ++ (84 ∷ entries (p .t) ++ floats (p .shift))
-    ++ (67 ∷ entries (p .c))
+    latticeCommand (p .lattice)
+    ++ transformation (p .t) (p .shift)
+    ++ centring (p .c)
     ++ each site (p .sites)
     ++ each (operation 79) (p .operations)
     ++ each image (p .images)
@@ -141,9 +154,10 @@ encode p =
 abbrev pub IsJob : List ℕ → Parts → Type 0
 IsJob bs p = T (holdsParts p) × (encode p ≡ bs)
 
--- Refusal 1: "Job bytes: over 65,536, unknown command, cut operand, wrong order, a command of the once-only kind missing or repeated, bytes after the end."
+-- Refusal 1: "Job bytes: over 65,536, unknown command, cut operand, wrong order, a command of the once-only kind
+-- missing or repeated, bytes after the end."
 abbrev pub NoJob : List ℕ → Type 0
-NoJob bs = (65536 < length bs) ⊎ ((p : Parts) → IsJob bs p → ⊥)
+NoJob bs = (most-bytes < length bs) ⊎ ((p : Parts) → IsJob bs p → ⊥)
 
 -- To be proved of the codec: no two jobs share their bytes.
 abbrev pub EncodeInjective : Type 0
@@ -196,6 +210,10 @@ operationOf o = record { rotation = rowsOf (o .rotation); translation = position
 abbrev pub candidateOf : CandidatePart → Candidate
 candidateOf w = record { multiplicity = w .multiplicity; letter = w .letter; text = w .text }
 
+-- C, the one place where it is read from the parts
+abbrev pub centringOf : Parts → Matrix
+centringOf p = rowsOf (p .c)
+
 -- the lattice "column by column": row i and column j stand at 3 j + i
 unfoldable pub jobOf : Parts → Job
 jobOf p =
@@ -203,7 +221,7 @@ jobOf p =
       lattice = mat (λ i j. float (getD (p .lattice) (3 * j + i) 0));
       t = rowsOf (p .t);
       shift = positionOf (p .shift);
-      c = rowsOf (p .c);
+      c = centringOf p;
       sites = map siteOf (p .sites);
       operations = map operationOf (p .operations);
       images = p .images;

@@ -1,8 +1,11 @@
--- Whole numbers in threes. "Matrices are three rows of three"; "Integer determinants and cofactors are exact": they are in ℤ.
+-- Whole numbers in threes. "Matrices are three rows of three"; "Integer determinants and cofactors are exact": they are
+-- in ℤ.
 use Prim.Native.Nat.{ℕ, _+_, _%_}
+use mathlib.Core.Bool.{cond}
 use mathlib.Core.List.{List, [], _∷_}
+use lib.Dec.{eqb}
 use lib.ListN.{getD}
-use lib.IntN.{ℤ, pos, _+ℤ_, _-ℤ_, _*ℤ_}
+use lib.IntN.{ℤ, pos, natAbs, _+ℤ_, _-ℤ_, _*ℤ_}
 
 abbrev pub Matrix : Type 0
 Matrix = List (List ℤ)
@@ -56,9 +59,11 @@ next i = (i + 1) % 3
 abbrev pub after : ℕ → ℕ
 after i = (i + 2) % 3
 
--- The cofactor of the entry in row i and column j: the minor of the other two rows and columns, both taken cyclically, which gives it its sign.
+-- The cofactor of the entry in row i and column j: the minor of the other two rows and columns, both taken cyclically,
+-- which gives it its sign.
 abbrev pub cofactor : Matrix → ℕ → ℕ → ℤ
-cofactor m i j = minor (at m (next i) (next j)) (at m (next i) (after j)) (at m (after i) (next j)) (at m (after i) (after j))
+cofactor m i j =
+    minor (at m (next i) (next j)) (at m (next i) (after j)) (at m (after i) (next j)) (at m (after i) (after j))
 
 abbrev pub det : Matrix → ℤ
 det m = dot (at m 0 0) (at m 0 1) (at m 0 2) (cofactor m 0 0) (cofactor m 0 1) (cofactor m 0 2)
@@ -67,6 +72,10 @@ det m = dot (at m 0 0) (at m 0 1) (at m 0 2) (cofactor m 0 0) (cofactor m 0 1) (
 abbrev pub adjugate : Matrix → Matrix
 adjugate m = mat (λ i j. cofactor m j i)
 
--- the inverse of a matrix whose determinant is 1 or -1
+-- 1 or -1 as it is, any other number 0
+abbrev pub unit : ℤ → ℤ
+unit z = cond (eqb (natAbs z) 1) z (pos 0)
+
+-- The inverse of a matrix whose determinant is 1 or -1. Zero where it is another, since no whole matrix is its inverse.
 abbrev pub inverse : Matrix → Matrix
-inverse m = mat (λ i j. det m *ℤ cofactor m j i)
+inverse m = mat (λ i j. unit (det m) *ℤ cofactor m j i)

@@ -1,4 +1,5 @@
--- "Label: the first listed site whose primitive site is joined by the aligned permutations, taken either way and in any number of steps, none included."
+-- "Label: the first listed site whose primitive site is joined by the aligned permutations, taken either way and in any
+-- number of steps, none included."
 use Prim.Native.Nat.{ℕ, _<_}
 use mathlib.Core.Path.{_≡_}
 use mathlib.Core.List.{List, map, List·Memᴰ}

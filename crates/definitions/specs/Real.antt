@@ -7,7 +7,8 @@ use mathlib.Core.Option.{Option, none, some}
 use lib.ListN.{getD}
 use lib.Dec.{T, leb}
 use lib.IntN.{ℤ}
-use lib.Ieee.{Float, nan, inf, fin, binary64, up, down, size, round, add, sub, mul, div, lt, ofInt, ofBits, toBits, fits}
+use lib.Ieee.{Float, nan, inf, fin, binary64, up, down, size, round, add, sub, mul, div, lt, ofInt, ofBits, toBits}
+use lib.Ieee.{fits}
 use Rattle.definitions.specs.declared.Position.{Position}
 use Rattle.definitions.specs.Matrix.{Matrix, at, mat, cofactor, det, next, after}
 
@@ -98,8 +99,10 @@ negative nan = false
 negative (inf s) = s
 negative (fin s m e) = s
 
--- "nearest whole number, ties away from zero, sign of zero retained", as IEEE 754's roundToIntegralTiesToAway has it of a finite x, about magnitudes:
--- r is whole, no further than a half above |x|, less than a half below it (at a half below, the other neighbour is the one away from zero), with x's sign.
+-- "nearest whole number, ties away from zero, sign of zero retained", as IEEE 754's roundToIntegralTiesToAway has it of
+-- a finite x, about magnitudes:
+-- r is whole, no further than a half above |x|, less than a half below it (at a half below, the other neighbour is the
+-- one away from zero), with x's sign.
 pub record NearestWhole (x r : Float) : Type 0 where
   pub fit : T (fits binary64 r)
   pub finite : T (isFinite r)
@@ -122,14 +125,19 @@ roundAway (fin s m e) = round binary64 s ((2 * (m * up e) + down e) / (2 * down 
 
 -- ---- square root
 
--- "Square root is IEEE 754's correctly rounded one", of a finite x above 0: r is finite and above 0, and x lies strictly between the squares of the mid-points
+-- "Square root is IEEE 754's correctly rounded one", of a finite x above 0: r is finite and above 0, and x lies
+-- strictly between the squares of the mid-points
 -- from r to any other float y that is finite and not negative. So no other float is as near to the root of x.
 pub record NearestRoot (x r : Float) : Type 0 where
   pub fit : T (fits binary64 r)
   pub finite : T (isFinite r)
   pub sign : negative r ≡ false
-  pub above : (y : Float) → T (fits binary64 y) → T (isFinite y) → unitsOf r < unitsOf y → 4 * (unitsOf x * 2 ^ 1074) < (unitsOf r + unitsOf y) ^ 2
-  pub below : (y : Float) → T (fits binary64 y) → T (isFinite y) → unitsOf y < unitsOf r → (unitsOf r + unitsOf y) ^ 2 < 4 * (unitsOf x * 2 ^ 1074)
+  pub above :
+      (y : Float) → T (fits binary64 y) → T (isFinite y) → unitsOf r < unitsOf y →
+      4 * (unitsOf x * 2 ^ 1074) < (unitsOf r + unitsOf y) ^ 2
+  pub below :
+      (y : Float) → T (fits binary64 y) → T (isFinite y) → unitsOf y < unitsOf r →
+      (unitsOf r + unitsOf y) ^ 2 < 4 * (unitsOf x * 2 ^ 1074)
 
 -- r is the square root of x; a zero and +infinity are their own, and what is below 0 has none
 unfoldable pub IsSqrt : Float → Float → Type 0
@@ -145,7 +153,8 @@ unfoldable pub rootCut : ℕ → ℕ → ℕ
 rootCut zero n = 0
 rootCut (suc d) n = let q = rootCut d (n / 4) in cond (leb ((2 * q + 1) * (2 * q + 1)) n) (2 * q + 1) (2 * q)
 
--- For the significand t from 2 ^ 52 below 2 ^ 53 and the exponent's field y - 1073, the pattern of the root: 54 digits of it, the last rounded away.
+-- For the significand t from 2 ^ 52 below 2 ^ 53 and the exponent's field y - 1073, the pattern of the root: 54 digits
+-- of it, the last rounded away.
 unfoldable pub rootPattern : ℕ → ℕ → ℕ
 unfolding rootCut
 rootPattern t y = (y / 2 - 26) * 2 ^ 52 + (rootCut 54 (t * 2 ^ (y % 2) * 4 ^ 27) + 1) / 2
@@ -181,7 +190,8 @@ lower a b c d e f = (a ∷ zeroF ∷ zeroF ∷ []) ∷ (b ∷ c ∷ zeroF ∷ []
 abbrev pub above0 : Float → Bool
 above0 x = lt zeroF x
 
--- "Cholesky works row by row on the lower triangle: subtract earlier products in index order, then root or divide." None where it "meets a pivot not above 0".
+-- "Cholesky works row by row on the lower triangle: subtract earlier products in index order, then root or divide."
+-- None where it "meets a pivot not above 0".
 unfoldable pub cholesky : RealMatrix → Option RealMatrix
 cholesky g =
     let l00 = sqrt (atF g 0 0) in
@@ -206,9 +216,11 @@ detF m =
     (mul binary64 (atF m 0 1) (minorF (atF m 1 0) (atF m 2 2) (atF m 2 0) (atF m 1 2))))
     (mul binary64 (atF m 0 2) (minorF (atF m 1 0) (atF m 2 1) (atF m 2 0) (atF m 1 1)))
 
--- the cofactor of the entry in row i and column j, "a signed difference of two products": the sign is that of the cyclic order
+-- the cofactor of the entry in row i and column j, "a signed difference of two products": the sign is that of the
+-- cyclic order
 abbrev pub cofactorF : RealMatrix → ℕ → ℕ → Float
-cofactorF m i j = minorF (atF m (next i) (next j)) (atF m (after i) (after j)) (atF m (after i) (next j)) (atF m (next i) (after j))
+cofactorF m i j =
+    minorF (atF m (next i) (next j)) (atF m (after i) (after j)) (atF m (after i) (next j)) (atF m (next i) (after j))
 
 -- "A float inverse divides each cofactor by that determinant"
 abbrev pub inverseF : RealMatrix → RealMatrix

@@ -1,4 +1,5 @@
--- "A call returns an accepted answer, or one number and nothing else." The one place of the numbers, and of the order in which they are checked.
+-- "A call returns an accepted answer, or one number and nothing else." The one place of the numbers, and of the order
+-- in which they are checked.
 use Prim.Native.Nat.{ℕ, _-_}
 use mathlib.Core.Bool.{true, false}
 use mathlib.Core.Path.{_≡_}
@@ -50,7 +51,8 @@ lattice = 12
 abbrev pub orbit-fit : ℕ
 orbit-fit = 13
 
--- The order of precedence: "The lowest number that applies is returned". A later request inserts its number here, and nothing below changes.
+-- The order of precedence: "The lowest number that applies is returned". A later request inserts its number here, and
+-- nothing below changes.
 unfoldable pub precedence : List ℕ
 precedence =
     job-bytes
@@ -70,7 +72,8 @@ precedence =
 
 -- ---- conditions
 
--- A number with what it says of a call's own arguments. A call has the list of those "that concern its arguments", in any order.
+-- A number with what it says of a call's own arguments. A call has the list of those "that concern its arguments", in
+-- any order.
 pub record Condition : Type 1 where
   pub number : ℕ
   pub holds : Type 0
@@ -108,17 +111,20 @@ pub data Outcome (A : Type 0) : Type 0 where
   accepted : A → Outcome A
   refused : ℕ → Outcome A
 
--- A call with the conditions cs, whose accepted answer is what `Answer` says of it, returns this: an answer where no number applies, and otherwise the first number that applies.
+-- A call with the conditions cs, whose accepted answer is what `Answer` says of it, returns this: an answer where no
+-- number applies, and otherwise the first number that applies.
 unfoldable pub Returns : {A : Type 0} → List Condition → (A → Type 0) → Outcome A → Type 0
 Returns cs Answer (accepted a) = PastAll cs × Answer a
 Returns cs Answer (refused k) = Applies cs k × Past k cs
 
--- "If an answer is an enum, a definition lists this paper's number and values for each of its cases": the verdict of a call whose answer a stands in lent lists.
+-- "If an answer is an enum, a definition lists this paper's number and values for each of its cases": the verdict of a
+-- call whose answer a stands in lent lists.
 abbrev pub outcomeOf : {A : Type 0} → A → Verdict → Outcome A
 outcomeOf a Accepted = accepted a
 outcomeOf a (Refused k) = refused k
 
--- The verdict v is right for the conditions cs: accepted where no number applies, and otherwise refused with the first that does.
+-- The verdict v is right for the conditions cs: accepted where no number applies, and otherwise refused with the first
+-- that does.
 unfoldable pub Checked : List Condition → Verdict → Type 0
 unfolding Returns
 Checked cs v = Returns cs (λ (u : Unit {0}). Unit {0}) (outcomeOf tt v)
@@ -144,3 +150,25 @@ Lent zero answer entry exit v = exit ≡ padded zero (written v answer) (length 
 -- a call with the conditions cs whose answer stands in one lent list
 abbrev pub Filled : {A : Type 0} → A → List Condition → List A → List A → List A → Verdict → Type 0
 Filled zero cs answer entry exit v = Checked cs v × Lent zero answer entry exit v
+
+-- ---- the promise of a call whose answer stands in several lent lists
+
+-- A call with the conditions cs, whose accepted answer is what `Is` says of it, leaves it in the lent lists as `Holds`
+-- says;
+-- refused, it leaves them `Zero`.
+abbrev pub Answered : {A : Type 0} → List Condition → (A → Type 0) → (A → Type 0) → Type 0 → Outcome A → Type 0
+Answered cs Is Holds Zero (accepted a) = Returns cs Is (accepted a) × Holds a
+Answered cs Is Holds Zero (refused k) = Returns cs Is (refused k) × Zero
+
+-- what is told of an outcome
+abbrev pub told : {A : Type 0} → Outcome A → Verdict
+told (accepted a) = Accepted
+told (refused k) = Refused k
+
+-- The promise: there is such an outcome, and the verdict v tells it.
+abbrev pub Promised : {A : Type 0} → List Condition → (A → Type 0) → (A → Type 0) → Type 0 → Verdict → Type 0
+Promised {A} cs Is Holds Zero v = (o : Outcome A) × Answered cs Is Holds Zero o × (told o ≡ v)
+
+-- one lent list holds an answer, and is zero behind it
+abbrev pub Holds : {A : Type 0} → A → List A → List A → List A → Type 0
+Holds zero entry exit answer = exit ≡ padded zero answer (length entry)

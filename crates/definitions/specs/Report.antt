@@ -1,4 +1,5 @@
--- The report program's text: "`refused K`, or a header (listed sites, then orbits; ..) and one line a listed site: site, primitive site, label, multiplicity, letter".
+-- The report program's text: "`refused K`, or a header (listed sites, then orbits; ..) and one line a listed site:
+-- site, primitive site, label, multiplicity, letter".
 use Prim.Native.Nat.{ℕ, zero, suc, _+_, _/_, _%_}
 use mathlib.Core.Bool.{true, false}
 use mathlib.Core.List.{List, [], _∷_, _++_}
@@ -47,4 +48,6 @@ siteLine a j =
 unfoldable pub report : Outcome Answer → List ℕ
 unfolding decimalIn each
 report (refused k) = refusedText ++ decimal k ++ (newline ∷ [])
-report (accepted a) = (sitesText ++ decimal (a .sites) ++ orbitsText ++ decimal (a .orbits) ++ (newline ∷ [])) ++ each (siteLine a) (upTo (a .sites))
+report (accepted a) =
+    (sitesText ++ decimal (a .sites) ++ orbitsText ++ decimal (a .orbits) ++ (newline ∷ []))
+    ++ each (siteLine a) (upTo (a .sites))

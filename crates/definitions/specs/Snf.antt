@@ -8,6 +8,7 @@ use lib.Dec.{T, leb, eqb}
 use lib.IntN.{ℤ, pos, negsuc, negℤ, natAbs, _-ℤ_, _*ℤ_}
 use lib.Signed.{quotZ}
 use Rattle.definitions.specs.Lists.{all, each, upTo}
+use Rattle.definitions.specs.Limits.{small}
 use Rattle.definitions.specs.Matrix.{Matrix, at, mat, three, identity, inverse, apply}
 
 -- D, L and R as they stand
@@ -97,7 +98,8 @@ signed s t = by (at (t .d) s s)
         let r′ = negateColumn s (t .r) in
         record { state = record { d = d′; l = t .l; r = r′ }; assigned = column s d′ ++ column s r′; updated = false }
 
--- row i of D and L loses k times row s, k the quotient of the entry by the pivot, cut toward 0; with k = 0 nothing is done
+-- row i of D and L loses k times row s, k the quotient of the entry by the pivot, cut toward 0; with k = 0 nothing is
+-- done
 unfoldable pub clearRow : ℕ → ℕ → Pass → Pass
 clearRow s i p = by (natAbs k)
   where
@@ -109,7 +111,11 @@ clearRow s i p = by (natAbs k)
     by (suc n) =
         let d′ = lessRow i k s (p .state .d) in
         let l′ = lessRow i k s (p .state .l) in
-        record { state = record { d = d′; l = l′; r = p .state .r }; assigned = p .assigned ++ row i d′ ++ row i l′; updated = true }
+        record {
+          state = record { d = d′; l = l′; r = p .state .r };
+          assigned = p .assigned ++ row i d′ ++ row i l′;
+          updated = true;
+        }
 
 -- the same of column j of D and R
 unfoldable pub clearColumn : ℕ → ℕ → Pass → Pass
@@ -123,7 +129,11 @@ clearColumn s j p = by (natAbs k)
     by (suc n) =
         let d′ = lessColumn j k s (p .state .d) in
         let r′ = lessColumn j k s (p .state .r) in
-        record { state = record { d = d′; l = p .state .l; r = r′ }; assigned = p .assigned ++ column j d′ ++ column j r′; updated = true }
+        record {
+          state = record { d = d′; l = p .state .l; r = r′ };
+          assigned = p .assigned ++ column j d′ ++ column j r′;
+          updated = true;
+        }
 
 -- the rows below the pivot, then the columns right of it
 unfoldable pub cleared : ℕ → Pass → Pass
@@ -138,11 +148,16 @@ pass s p t = cleared s (signed s (moved s p t))
 
 -- ---- stages
 
--- The stage s takes a state to a state in passes, each with what it assigned: it ends where no pivot is left, or after a pass that updates nothing.
+-- The stage s takes a state to a state in passes, each with what it assigned: it ends where no pivot is left, or after
+-- a pass that updates nothing.
 pub data Stage (s : ℕ) : State → List (List ℤ) → State → Type 0 where
   empty : {t : State} → pivot s (t .d) ≡ none → Stage s t [] t
-  last : {t : State} (p : Place) → pivot s (t .d) ≡ some p → pass s p t .updated ≡ false → Stage s t (pass s p t .assigned ∷ []) (pass s p t .state)
-  again : {t u : State} {rest : List (List ℤ)} (p : Place) → pivot s (t .d) ≡ some p → pass s p t .updated ≡ true → Stage s (pass s p t .state) rest u → Stage s t (pass s p t .assigned ∷ rest) u
+  last :
+      {t : State} (p : Place) → pivot s (t .d) ≡ some p → pass s p t .updated ≡ false →
+      Stage s t (pass s p t .assigned ∷ []) (pass s p t .state)
+  again :
+      {t u : State} {rest : List (List ℤ)} (p : Place) → pivot s (t .d) ≡ some p → pass s p t .updated ≡ true →
+      Stage s (pass s p t .state) rest u → Stage s t (pass s p t .assigned ∷ rest) u
 
 abbrev pub start : Matrix → State
 start m = record { d = m; l = identity; r = identity }
@@ -162,10 +177,6 @@ pub record Run (m : Matrix) : Type 0 where
 abbrev pub allAssigned : {m : Matrix} → Run m → List ℤ
 allAssigned r = each (λ a. a) (r .assigned₀ ++ r .assigned₁ ++ r .assigned₂)
 
--- -511..511
-abbrev pub small : ℤ → Bool
-small x = leb (natAbs x) 511
-
 -- Refusal 8 of the matrix m: "an assigned entry of D, L or R leaves -511..511".
 abbrev pub Leaves : Matrix → Type 0
 Leaves m = (r : Run m) × T (not (all small (allAssigned r)))
@@ -183,4 +194,6 @@ box a b c = each (λ i. each (λ j. map (λ k. pos i ∷ pos j ∷ pos k ∷ [])
 -- "Points: L⁻¹f"
 unfoldable pub points : State → List (List ℤ)
 unfolding box
-points t = map (λ f. apply (inverse (t .l)) f) (box (natAbs (at (t .d) 0 0)) (natAbs (at (t .d) 1 1)) (natAbs (at (t .d) 2 2)))
+points t =
+    map (λ f. apply (inverse (t .l)) f)
+    (box (natAbs (at (t .d) 0 0)) (natAbs (at (t .d) 1 1)) (natAbs (at (t .d) 2 2)))

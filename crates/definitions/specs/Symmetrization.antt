@@ -10,7 +10,9 @@ use lib.Ieee.{Float, binary64, neg, sub, div, lt, eq}
 use Rattle.definitions.specs.declared.Position.{Position}
 use Rattle.definitions.specs.Lists.{all, upTo}
 use Rattle.definitions.specs.Matrix.{Matrix, mat}
-use Rattle.definitions.specs.Real.{RealMatrix, zeroF, origin, atF, real, realOf, mulF, transposeF, applyF, addP, subP, mapP, sumP, sumM, inverseOfC, roundAway, isFinite, cholesky, detF, inverseF}
+use Rattle.definitions.specs.Real.{RealMatrix, zeroF, origin, atF, real, realOf, mulF, transposeF, applyF, addP}
+use Rattle.definitions.specs.Real.{subP, mapP, sumP, sumM, inverseOfC, roundAway, isFinite, cholesky, detF}
+use Rattle.definitions.specs.Real.{inverseF}
 use Rattle.definitions.specs.Permutation.{inverseImage}
 use Rattle.definitions.specs.Job.{Job, Operation}
 use Rattle.definitions.specs.Transformation.{alignedTo, aligned, transformed}
@@ -26,7 +28,10 @@ offRound d = sub binary64 d (roundAway d)
 
 -- "d = (R·p[inverse image of i] + t) - p[i]"
 abbrev pub displacement : List Position → Operation → List ℕ → ℕ → Position
-displacement ps g perm i = subP (addP (applyF (real (g .rotation)) (positionAt ps (inverseImage perm i))) (g .translation)) (positionAt ps i)
+displacement ps g perm i =
+    subP
+    (addP (applyF (real (g .rotation)) (positionAt ps (inverseImage perm i))) (g .translation))
+    (positionAt ps i)
 
 -- each target with its permutation
 unfoldable pub displacements : List Position → List Operation → List (List ℕ) → ℕ → List Position
@@ -34,7 +39,8 @@ displacements ps [] perms i = []
 displacements ps (g ∷ gs) [] i = []
 displacements ps (g ∷ gs) (perm ∷ perms) i = mapP offRound (displacement ps g perm i) ∷ displacements ps gs perms i
 
--- "Site i adds, over targets in order, d - round(d) ..; the sum is divided by the number of targets and added to p[i]": all d from the list ps
+-- "Site i adds, over targets in order, d - round(d) ..; the sum is divided by the number of targets and added to p[i]":
+-- all d from the list ps
 unfoldable pub symmetrizedAt : List Position → List Operation → List (List ℕ) → ℕ → Position
 unfolding displacements
 symmetrizedAt ps gs perms i =
@@ -80,7 +86,8 @@ abbrev pub factorFails : RealMatrix → Option RealMatrix → Bool
 factorFails old none = true
 factorFails old (some l) = eq (detF old) zeroF || not (all (all isFinite) (deformation old l))
 
--- Refusal 12: "Cholesky meets a pivot not above 0, the conventional basis has determinant 0, or an entry of the deformation isn't finite."
+-- Refusal 12: "Cholesky meets a pivot not above 0, the conventional basis has determinant 0, or an entry of the
+-- deformation isn't finite."
 unfoldable pub latticeFails : RealMatrix → List Matrix → Bool
 unfolding cholesky all
 latticeFails old rs = factorFails old (cholesky (meanMetric old rs))
@@ -97,11 +104,22 @@ symmetrizedBasis old rs = basisOr old (cholesky (meanMetric old rs))
 abbrev pub oldBasis : Job → RealMatrix
 oldBasis j = conventionalBasis (j .lattice) (j .t) (j .c)
 
--- "The primitive basis is the new basis times C⁻¹; the listed basis is the primitive one times C"
+-- The new basis of a lattice under T, C and the conventional rotations. "The primitive basis is the new basis times
+-- C⁻¹; the listed
+-- basis is the primitive one times C"
+abbrev pub newOf : RealMatrix → Matrix → Matrix → List Matrix → RealMatrix
+newOf l t c rs = symmetrizedBasis (conventionalBasis l t c) rs
+
+abbrev pub primitiveOf : RealMatrix → Matrix → Matrix → List Matrix → RealMatrix
+primitiveOf l t c rs = mulF (newOf l t c rs) (inverseOfC c)
+
+abbrev pub listedOf : RealMatrix → Matrix → Matrix → List Matrix → RealMatrix
+listedOf l t c rs = mulF (primitiveOf l t c rs) (real c)
+
 unfoldable pub primitiveBasis : Job → RealMatrix
 unfolding symmetrizedBasis
-primitiveBasis j = mulF (symmetrizedBasis (oldBasis j) (j .rotations)) (inverseOfC (j .c))
+primitiveBasis j = primitiveOf (j .lattice) (j .t) (j .c) (j .rotations)
 
 unfoldable pub listedBasis : Job → RealMatrix
-unfolding primitiveBasis
-listedBasis j = mulF (primitiveBasis j) (real (j .c))
+unfolding symmetrizedBasis
+listedBasis j = listedOf (j .lattice) (j .t) (j .c) (j .rotations)

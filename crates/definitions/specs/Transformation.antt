@@ -53,7 +53,8 @@ abbrev pub permutationOr : ℕ → List ℕ → Option ℕ → List ℕ
 permutationOr n images none = []
 permutationOr n images (some k) = permutationAt n images k
 
--- "The aligned permutations are a list with one for each target, in the order of the targets": of n sites, T, the operations' rotations and images, and the targets' rotations
+-- "The aligned permutations are a list with one for each target, in the order of the targets": of n sites, T, the
+-- operations' rotations and images, and the targets' rotations
 unfoldable pub alignedTo : ℕ → Matrix → List Matrix → List ℕ → List Matrix → List (List ℕ)
 unfolding operationFor
 alignedTo n t rs images gs = map (λ g. permutationOr n images (operationFor t rs g)) gs

@@ -52,7 +52,8 @@ quotient (pos (suc n)) b = div binary64 b (realOf (pos (suc n)))
 quotient (negsuc n) b = div binary64 b (realOf (negsuc n))
 
 abbrev pub quotients : Matrix → Position → Position
-quotients d b = record { x = quotient (at d 0 0) (b .x); y = quotient (at d 1 1) (b .y); z = quotient (at d 2 2) (b .z) }
+quotients d b =
+    record { x = quotient (at d 0 0) (b .x); y = quotient (at d 1 1) (b .y); z = quotient (at d 2 2) (b .z) }
 
 -- "t = (o + p) - q; b = L·t; divide by dᵢ ..; y = R·that; e = ((M·y + q) - p) - o"
 unfoldable pub residual : Space → Position → Position → Position
@@ -76,7 +77,10 @@ unfoldable pub matchFrom : RealMatrix → Float → Space → Position → ℕ �
 unfolding fitsAt distance
 matchFrom basis symprec s p k [] = Misses
 matchFrom basis symprec s p k (o ∷ os) =
-    elim (fitsAt basis symprec s p o) [ true ↦ Fits k (distance basis s p o) | false ↦ matchFrom basis symprec s p (suc k) os ]
+    elim (fitsAt basis symprec s p o) [
+      | true ↦ Fits k (distance basis s p o)
+      | false ↦ matchFrom basis symprec s p (suc k) os
+    ]
 
 -- "A match either fits, with the offset's place and the distance, or misses"
 unfoldable pub matchOf : RealMatrix → Float → Space → Position → Match
@@ -117,9 +121,23 @@ choices [] ss = []
 choices (w ∷ ws) [] = []
 choices (w ∷ ws) (s ∷ ss) = record { multiplicity = w .multiplicity; letter = w .letter; space = s } ∷ choices ws ss
 
+-- ---- the candidate walk
+
+-- "A candidate is tried only where its multiplicity equals the orbit's": a position in an orbit of m sites fits the
+-- candidate w
+unfoldable pub positionFits : RealMatrix → Float → ℕ → Position → Choice → Bool
+unfolding fits125
+positionFits basis symprec m p w = eqb (w .multiplicity) m && fits125 basis symprec (w .space) p
+
+-- the first candidate, in list order, that the position fits
+unfoldable pub candidateFor : RealMatrix → Float → ℕ → Position → List Choice → Option Choice
+unfolding first positionFits
+candidateFor basis symprec m p ws = first (positionFits basis symprec m p) ws
+
 -- ---- the fit
 
--- What a call letters: listed sites by their primitive sites, the permutations that join those, positions, the listed basis, candidates and symprec.
+-- What a call letters: listed sites by their primitive sites, the permutations that join those, positions, the listed
+-- basis, candidates and symprec.
 pub record Lettering : Type 0 where
   pub permutations : List (List ℕ)
   pub mapping : List ℕ
@@ -153,11 +171,12 @@ sitesOf {g} w =
       symprec = g .symprec;
     }
 
--- "A listed site fits a candidate if the candidate's multiplicity is that of the site's orbit and at least one of the 125 offsets fits, p being the listed position."
+-- "A listed site fits a candidate if the candidate's multiplicity is that of the site's orbit and at least one of the
+-- 125 offsets fits, p being the listed position."
 unfoldable pub siteFits : Sites → ℕ → Choice → Bool
-unfolding multiplicities fits125
+unfolding multiplicities positionFits
 siteFits g j w =
-    eqb (w .multiplicity) (getD (multiplicities (g .labels)) j 0) && fits125 (g .basis) (g .symprec) (w .space) (getD (g .positions) j origin)
+    positionFits (g .basis) (g .symprec) (getD (multiplicities (g .labels)) j 0) (getD (g .positions) j origin) w
 
 -- the site fits at least one candidate
 unfoldable pub siteFitsAny : Sites → ℕ → Bool
@@ -171,7 +190,7 @@ orbitFits g l = any (siteFitsAny g) (orbit (g .labels) l)
 
 -- "Its letter is then that of the first candidate, in list order, that its first such site fits."
 unfoldable pub letterOf : Sites → ℕ → Option ℕ
-unfolding first orbit siteFits siteFitsAny
+unfolding first orbit siteFitsAny multiplicities candidateFor
 letterOf g l = bySite (first (siteFitsAny g) (orbit (g .labels) l))
   where
     byChoice : Option Choice → Option ℕ
@@ -180,7 +199,10 @@ letterOf g l = bySite (first (siteFitsAny g) (orbit (g .labels) l))
 
     bySite : Option ℕ → Option ℕ
     bySite none = none
-    bySite (some j) = byChoice (first (siteFits g j) (g .choices))
+    bySite (some j) =
+        byChoice
+        (candidateFor (g .basis) (g .symprec) (getD (multiplicities (g .labels)) j 0) (getD (g .positions) j origin)
+        (g .choices))
 
 -- Refusal 13: "An orbit without a fit."
 unfoldable pub orbitWithoutFit : Sites → Bool
