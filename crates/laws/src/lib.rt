@@ -1,0 +1,1 @@
+// Laws about the definitions that several crates cite; they stand in specs/.
