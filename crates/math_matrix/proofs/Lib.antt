@@ -1,1 +1,3 @@
 pub mod Shape
+pub mod Sizes
+pub mod Sums

@@ -1,4 +1,5 @@
--- The solver for vectors and matrices: Matrix's words over expressions, so that a law of matrices is decided entry by entry.
+-- The solver for vectors and matrices: Matrix's words over expressions, so that a law of matrices is decided entry by
+-- entry.
 use Prim.Native.Nat.{ℕ, _+_, _*_}
 use mathlib.Core.Path.{_≡_}
 use mathlib.Core.Bool.{Bool, true, false, _&&_}

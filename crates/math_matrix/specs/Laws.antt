@@ -1,12 +1,15 @@
--- The laws of three by three matrices. Most hold of any lists of lists, since Matrix's words read nine entries only and give three rows of three.
+-- The laws of three by three matrices. Most hold of any lists of lists, since Matrix's words read nine entries only and
+-- give three rows of three.
 use Prim.Native.Nat.{ℕ, _*_, _<_}
 use mathlib.Core.Path.{_≡_, refl, sym, ap, _∙_}
+use mathlib.Core.Bool.{Bool, cond}
 use mathlib.Core.List.{List, [], _∷_, _++_}
 use native.Mathlib.Omega.{arith}
 use lib.Dec.{lit<}
 use lib.ListN.{getD, length}
 use lib.IntN.{ℤ, pos, negsuc, natAbs, _*ℤ_}
-use Rattle.definitions.specs.Matrix.{Matrix, at, mat, item, three, identity, mulM, transpose, apply, subV, det, adjugate, inverse}
+use borrow.Author.Tests.{eq-eqb}
+use Rattle.definitions.specs.Matrix.{Matrix, at, mat, item, three, identity, mulM, transpose, apply, subV, cofactor, det, adjugate, inverse}
 use Rattle.math_matrix.specs.Solve.{Expr, con, _⊖_, _⊗_, solve, one-left, one-right}
 use Rattle.math_matrix.specs.Ring.{*ℤ-assoc}
 use Rattle.math_matrix.specs.Exprs.{three-eq, solveV, solveM, entries, entriesE, items, itemsE, mulE, applyE, cofactorE, detE}
@@ -56,14 +59,23 @@ square-unit (negsuc n) e = ap (λ (k : ℕ). pos (k * k)) e
 inverseE : ℕ → ℕ → Expr
 inverseE i j = detE A ⊗ cofactorE A j i
 
+inverse-unit : (m : Matrix) → natAbs (det m) ≡ 1 → inverse m ≡ mat (λ i j. det m *ℤ cofactor m j i)
+inverse-unit m e = ap (λ (b : Bool). mat (λ i j. cond b (det m) (pos 0) *ℤ cofactor m j i)) (eq-eqb (natAbs (det m)) 1 e)
+
 -- a matrix whose determinant is 1 or -1 times its inverse, on either side
 pub mul-inverse : (m : Matrix) → natAbs (det m) ≡ 1 → mulM m (inverse m) ≡ identity
 unfolding inverseE
-mul-inverse m e = solveM (entries m) (mulE A inverseE) (λ i j. detE A ⊗ detE A ⊗ I i j) tt ∙ ap scalar (square-unit (det m) e)
+mul-inverse m e =
+    ap (mulM m) (inverse-unit m e)
+    ∙ solveM (entries m) (mulE A inverseE) (λ i j. detE A ⊗ detE A ⊗ I i j) tt
+    ∙ ap scalar (square-unit (det m) e)
 
 pub inverse-mul : (m : Matrix) → natAbs (det m) ≡ 1 → mulM (inverse m) m ≡ identity
 unfolding inverseE
-inverse-mul m e = solveM (entries m) (mulE inverseE A) (λ i j. detE A ⊗ detE A ⊗ I i j) tt ∙ ap scalar (square-unit (det m) e)
+inverse-mul m e =
+    ap (λ (x : Matrix). mulM x m) (inverse-unit m e)
+    ∙ solveM (entries m) (mulE inverseE A) (λ i j. detE A ⊗ detE A ⊗ I i j) tt
+    ∙ ap scalar (square-unit (det m) e)
 
 pub det-identity : det identity ≡ pos 1
 det-identity = refl

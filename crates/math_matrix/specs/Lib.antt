@@ -3,3 +3,4 @@ pub mod Solve
 pub mod Exprs
 pub mod Laws
 pub mod Bounds
+pub mod Rows

@@ -1,4 +1,5 @@
--- Polynomial identities over ℤ, decided by computing: two expressions whose difference has no monomial left have the same value everywhere.
+-- Polynomial identities over ℤ, decided by computing: two expressions whose difference has no monomial left have the
+-- same value everywhere.
 use Prim.Native.Nat.{ℕ, zero, suc, _+_, compare, Ordering, Ordering·lt, Ordering·eq, Ordering·gt}
 use mathlib.Core.Path.{_≡_, refl, sym, ap, _∙_, subst}
 use mathlib.Core.Bool.{Bool, true, false}

@@ -1,4 +1,5 @@
--- Definitions of this crate: those of functions for which the definitions have no name, and what each function on a row gives.
+-- Definitions of this crate: those of functions for which the definitions have no name, and what each function on a row
+-- gives.
 use Prim.Native.Nat.{ℕ}
 use mathlib.Core.Path.{_≡_, refl, _∙_}
 use mathlib.Core.Bool.{Bool, true, false, _&&_}

@@ -1,10 +1,11 @@
 // The determinant and the inverse: each cofactor over the determinant.
 use crate::matrix;
+use definitions::Basis;
 ghost use mathlib.Core.Path.{_≡_};
 ghost use Rattle.definitions.specs.Real.{detF, inverseF};
 ghost use Rattle.math_real.specs.Rows.{crossOver};
 
-pub fn determinant(m: [[f64; 3]; 3]) -> f64
+pub fn determinant(m: Basis) -> f64
     ensures { λ r. ⌜ r ≡ detF m ⌝ }
 {
     let m10 = m[1][0];
@@ -34,7 +35,7 @@ fn cross_over(u: [f64; 3], v: [f64; 3], d: f64) -> [f64; 3]
     ]
 }
 
-pub fn inverse(m: [[f64; 3]; 3]) -> [[f64; 3]; 3]
+pub fn inverse(m: Basis) -> Basis
     ensures { λ r. ⌜ r ≡ inverseF m ⌝ }
 {
     let d = determinant(m);

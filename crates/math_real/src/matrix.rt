@@ -1,9 +1,11 @@
 // Matrices row by row: product, transpose, sum, quotient, the third row's sign, whether all entries are finite.
+use definitions::Basis;
 ghost use mathlib.Core.Path.{_≡_};
 ghost use Rattle.definitions.specs.Real.{mulF, transposeF, addM, isFinite};
-ghost use Rattle.math_real.specs.Rows.{rowTimes, addRow, divideRow, divideM, negateThirdRow, finiteRow, allFinite};
+ghost use Rattle.math_real.specs.Rows.{rowTimes, addRow, divideRow, divideM};
+ghost use Rattle.math_real.specs.Rows.{negateThirdRow, finiteRow, allFinite};
 
-fn row_times(a: [f64; 3], b: [[f64; 3]; 3]) -> [f64; 3]
+fn row_times(a: [f64; 3], b: Basis) -> [f64; 3]
     ensures { λ r. ⌜ r ≡ rowTimes a b ⌝ }
 {
     let a0 = a[0];
@@ -16,7 +18,7 @@ fn row_times(a: [f64; 3], b: [[f64; 3]; 3]) -> [f64; 3]
     ]
 }
 
-pub fn product(a: [[f64; 3]; 3], b: [[f64; 3]; 3]) -> [[f64; 3]; 3]
+pub fn product(a: Basis, b: Basis) -> Basis
     ensures { λ r. ⌜ r ≡ mulF a b ⌝ }
 {
     let r0 = row_times(a[0], b);
@@ -25,7 +27,7 @@ pub fn product(a: [[f64; 3]; 3], b: [[f64; 3]; 3]) -> [[f64; 3]; 3]
     [r0, r1, r2]
 }
 
-pub fn transpose(m: [[f64; 3]; 3]) -> [[f64; 3]; 3]
+pub fn transpose(m: Basis) -> Basis
     ensures { λ r. ⌜ r ≡ transposeF m ⌝ }
 {
     [
@@ -41,7 +43,7 @@ fn row_sum(a: [f64; 3], b: [f64; 3]) -> [f64; 3]
     [a[0] + b[0], a[1] + b[1], a[2] + b[2]]
 }
 
-pub fn sum(a: [[f64; 3]; 3], b: [[f64; 3]; 3]) -> [[f64; 3]; 3]
+pub fn sum(a: Basis, b: Basis) -> Basis
     ensures { λ r. ⌜ r ≡ addM a b ⌝ }
 {
     let r0 = row_sum(a[0], b[0]);
@@ -56,7 +58,7 @@ fn divide_row(a: [f64; 3], by: f64) -> [f64; 3]
     [a[0] / by, a[1] / by, a[2] / by]
 }
 
-pub fn divide(m: [[f64; 3]; 3], by: f64) -> [[f64; 3]; 3]
+pub fn divide(m: Basis, by: f64) -> Basis
     ensures { λ r. ⌜ r ≡ divideM m by ⌝ }
 {
     let r0 = divide_row(m[0], by);
@@ -65,7 +67,7 @@ pub fn divide(m: [[f64; 3]; 3], by: f64) -> [[f64; 3]; 3]
     [r0, r1, r2]
 }
 
-pub fn negate_third_row(m: [[f64; 3]; 3]) -> [[f64; 3]; 3]
+pub fn negate_third_row(m: Basis) -> Basis
     ensures { λ r. ⌜ r ≡ negateThirdRow m ⌝ }
 {
     let third = [-m[2][0], -m[2][1], -m[2][2]];
@@ -91,7 +93,7 @@ fn row_finite(a: [f64; 3]) -> bool
     x & y & z
 }
 
-pub fn all_finite(m: [[f64; 3]; 3]) -> bool
+pub fn all_finite(m: Basis) -> bool
     ensures { λ r. ⌜ r ≡ allFinite m ⌝ }
 {
     let x = row_finite(m[0]);

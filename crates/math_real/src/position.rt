@@ -1,8 +1,12 @@
 // Positions: sums, differences, a matrix times a position, remainders.
+use definitions::Basis;
+use definitions::Cells;
 use definitions::Position;
 ghost use mathlib.Core.Path.{_≡_};
 ghost use Rattle.definitions.specs.Real.{addP, subP, applyF, mapP};
 ghost use Rattle.definitions.specs.Cell.{reduced};
+ghost use Rattle.definitions.specs.Lent.{positionFrom, cellsOf};
+ghost use lib.Ieee.{binary64, div};
 
 pub fn add(p: Position, q: Position) -> Position
     ensures { λ r. ⌜ r ≡ addP p q ⌝ }
@@ -24,7 +28,7 @@ pub fn sub(p: Position, q: Position) -> Position
     }
 }
 
-pub fn apply(m: [[f64; 3]; 3], p: Position) -> Position
+pub fn apply(m: Basis, p: Position) -> Position
     ensures { λ r. ⌜ r ≡ applyF m p ⌝ }
 {
     Position {
@@ -42,5 +46,34 @@ pub fn remainder(p: Position) -> Position
         x: p.x % 1.0,
         y: p.y % 1.0,
         z: p.z % 1.0,
+    }
+}
+
+// ---- a position as a lent entry of three floats
+
+pub fn position_of(v: Cells) -> Position
+    ensures { λ r. ⌜ r ≡ positionFrom v ⌝ }
+{
+    Position {
+        x: v[0],
+        y: v[1],
+        z: v[2],
+    }
+}
+
+pub fn cells_of(p: Position) -> Cells
+    ensures { λ r. ⌜ r ≡ cellsOf p ⌝ }
+{
+    [p.x, p.y, p.z]
+}
+
+// each coordinate over `by`
+pub fn divide(p: Position, by: f64) -> Position
+    ensures { λ r. ⌜ r ≡ mapP (λ s. div binary64 s by) p ⌝ }
+{
+    Position {
+        x: p.x / by,
+        y: p.y / by,
+        z: p.z / by,
     }
 }

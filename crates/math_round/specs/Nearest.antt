@@ -1,4 +1,5 @@
--- The two readings of "nearest whole number, ties away from zero" agree: what `roundAway` computes is nearest, and only one float is.
+-- The two readings of "nearest whole number, ties away from zero" agree: what `roundAway` computes is nearest, and only
+-- one float is.
 use Prim.Native.Nat.{ℕ, zero, suc, _+_, _*_, _-_, _/_, _%_, _^_, _≤_, _<_}
 use mathlib.Core.Path.{_≡_, refl, sym, ap, _∙_, subst}
 use mathlib.Core.Bool.{Bool, _&&_}

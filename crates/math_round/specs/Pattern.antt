@@ -3,15 +3,15 @@ use Prim.Native.Nat.{ℕ, zero, suc, _+_, _*_, _-_, _/_, _%_, _^_, _≤_, _<_}
 use mathlib.Core.Path.{_≡_, refl, sym, ap, _∙_, subst}
 use mathlib.Core.Bool.{Bool, true, false, cond}
 use native.Mathlib.Omega.{arith}
-use native.Mathlib.Nat.{mul-assoc, not-suc-le-zero, lt-of-lt-of-le, eq-of-mul-eq-mul-right}
+use native.Mathlib.Nat.{mul-assoc, lt-of-lt-of-le, eq-of-mul-eq-mul-right}
 use borrow.Author.Tests.{ne-eqb, eqb-false}
-use lib.Dec.{eqb, leb}
+use lib.Dec.{eqb, leb, lit≤}
 use lib.Pow.{pow-add, pow-pos, pow-mono, shl-lt}
 use lib.Ieee.{Float, nan, inf, fin, binary64, up, down, round, odd, ofFields, ofBits}
 use lib.Ieee.Fits.{odd-fits}
 use lib.Ieee.Exact.{HasValue, odd-sign}
 use Rattle.definitions.specs.Real.{roundAway}
-use Rattle.math_round.specs.Value.{nearestPart, roundAway-of-fraction, roundAway-of-whole, roundAway-below-half}
+use Rattle.math_round.specs.Value.{nearestPart, nearestPart-none, roundAway-of-fraction, roundAway-of-whole, roundAway-below-half}
 
 -- a float of the field suc x and the digits t is (2 ^ 52 + t) * 2 ^ x units of 2 ^ -1074
 normal-value : (s : Bool) (x t : ℕ) → suc x < 2047 → HasValue (ofFields binary64 s (suc x) t) s ((2 ^ 52 + t) * 2 ^ x) (2 ^ 1074)
@@ -63,17 +63,14 @@ whole-from-1075 g x t h l b = by (eqb (suc x) 2047) refl
         roundAway-of-whole v g n k (odd-fits binary64 53 g n x small fine big) small in-range
         (in-ones v g (n * 2 ^ k) (2 ^ 1074) (pow-pos 1074) (subst (λ y. HasValue v g y (2 ^ 1074)) split (odd-sign 53 g n x 1074)))
 
-below-half : (d x : ℕ) → d < 2 ^ 53 → x ≤ 1020 → 2 * (d * 2 ^ x) < 2 ^ 1074
-below-half d x b h =
-    let le : 54 + x ≤ 1074 = omega arith in
-    lt-of-lt-of-le (subst (λ y. y < 2 ^ (54 + x)) (mul-assoc 2 d (2 ^ x)) (shl-lt 54 x (omega arith))) (pow-mono le)
-
-zero-below-1022 : (g : Bool) (x t : ℕ) → x < 1022 → t < 2 ^ 52 → roundAway (ofFields binary64 g x t) ≡ round binary64 g 0 1
-zero-below-1022 g zero t h b =
-    roundAway-below-half (ofFields binary64 g 0 t) g (t * 2 ^ 0) (below-half t 0 (omega arith) (omega arith)) (subnormal-value g t)
-zero-below-1022 g (suc x) t h b =
-    roundAway-below-half (ofFields binary64 g (suc x) t) g ((2 ^ 52 + t) * 2 ^ x) (below-half (2 ^ 52 + t) x (omega arith) (omega arith))
-    (normal-value g x t (omega arith))
+-- below the field 1 there is next to nothing
+none-at-0 : (g : Bool) (t : ℕ) → t < 2 ^ 52 → roundAway (ofFields binary64 g 0 t) ≡ round binary64 g (nearestPart (2 ^ 52 + t) 1075) 1
+none-at-0 g t b =
+    roundAway-below-half (ofFields binary64 g 0 t) g (t * 2 ^ 0) (small t b) (subnormal-value g t)
+    ∙ ap (λ n. round binary64 g n 1) (sym (nearestPart-none (2 ^ 52 + t) 1075 (omega arith) (lit≤ tt)))
+  where
+    small : (t : ℕ) → t < 2 ^ 52 → 2 * (t * 2 ^ 0) < 2 ^ 1074
+    small t b = let l : 2 * (t * 2 ^ 0) < 2 ^ 53 = omega arith in lt-of-lt-of-le l (pow-mono {i = 53} {j = 1074} (lit≤ tt))
 
 -- ---- by the pattern
 pub bits-whole : (b : ℕ) → 1075 ≤ b % 2 ^ 63 / 2 ^ 52 → roundAway (ofBits binary64 b) ≡ ofBits binary64 b
@@ -88,18 +85,14 @@ bits-whole b h = at (b % 2 ^ 63 / 2 ^ 52) refl
         no h e = omega arith
     at (suc x) e = whole-from-1075 (leb (2 ^ 63) b) x (b % 2 ^ 52) (omega arith) (omega arith) (omega arith)
 
-pub bits-zero : (b : ℕ) → b % 2 ^ 63 / 2 ^ 52 < 1022 → roundAway (ofBits binary64 b) ≡ round binary64 (leb (2 ^ 63) b) 0 1
-unfolding ofBits
-bits-zero b h = zero-below-1022 (leb (2 ^ 63) b) (b % 2 ^ 63 / 2 ^ 52) (b % 2 ^ 52) h (omega arith)
-
-pub bits-fraction : (b : ℕ) → 1 ≤ b % 2 ^ 63 / 2 ^ 52 → b % 2 ^ 63 / 2 ^ 52 < 1075
+pub bits-fraction : (b : ℕ) → b % 2 ^ 63 / 2 ^ 52 < 1075
     → roundAway (ofBits binary64 b) ≡ round binary64 (leb (2 ^ 63) b) (nearestPart (2 ^ 52 + b % 2 ^ 52) (1075 - b % 2 ^ 63 / 2 ^ 52)) 1
 unfolding ofBits
-bits-fraction b h k = at (b % 2 ^ 63 / 2 ^ 52) h k
+bits-fraction b k = at (b % 2 ^ 63 / 2 ^ 52) k
   where
-    at : (x : ℕ) → 1 ≤ x → x < 1075
+    at : (x : ℕ) → x < 1075
         → roundAway (ofFields binary64 (leb (2 ^ 63) b) x (b % 2 ^ 52)) ≡ round binary64 (leb (2 ^ 63) b) (nearestPart (2 ^ 52 + b % 2 ^ 52) (1075 - x)) 1
-    at zero h k = absurd (not-suc-le-zero h)
-    at (suc x) h k =
+    at zero k = none-at-0 (leb (2 ^ 63) b) (b % 2 ^ 52) (omega arith)
+    at (suc x) k =
         roundAway-of-fraction (ofFields binary64 (leb (2 ^ 63) b) (suc x) (b % 2 ^ 52)) (leb (2 ^ 63) b) (2 ^ 52 + b % 2 ^ 52) x (1075 - suc x)
         (normal-value (leb (2 ^ 63) b) x (b % 2 ^ 52) (omega arith)) (omega arith)

@@ -1,11 +1,12 @@
--- `roundAway` depends on a float's value alone; what it is of a whole number, of a fraction of some places, and below a half.
+-- `roundAway` depends on a float's value alone; what it is of a whole number, of a fraction of some places, and below a
+-- half.
 use Prim.Native.Nat.{ℕ, zero, suc, _+_, _*_, _-_, _/_, _%_, _^_, _≤_, _<_, compare}
 use mathlib.Core.Path.{_≡_, refl, sym, ap, _∙_, subst}
 use mathlib.Core.Bool.{Bool, true, false, cond}
 use native.Mathlib.Omega.{arith}
 use native.Mathlib.Nat.{mul-pos, mul-one, mul-le-mul, le-of-suc-le-suc, div-eq-of-lt, div-lt-iff-lt-mul}
 use lib.Dec.{T, ltb}
-use lib.Pow.{pow-add, pow-pos, shl-lt}
+use lib.Pow.{pow-add, pow-pos, pow-mono, shl-lt}
 use lib.Ieee.{Float, nan, inf, fin, binary64, up, down, size, nearest, round, odd, units, neg, fits, low}
 use lib.Ieee.Fits.{down-pos, round-is, round-fits}
 use lib.Ieee.Exact.{HasValue, round-exact}
@@ -36,6 +37,13 @@ nearestPart-le d s b h =
   where
     room : (p : ℕ) → 0 < p → 2 * d + p < suc b * (2 * p)
     room p o = omega (arith, mul-le-mul h o)
+
+-- past 54 places nothing is left of 53 digits
+pub nearestPart-none : (d s : ℕ) → d < 2 ^ 53 → 54 ≤ s → nearestPart d s ≡ 0
+nearestPart-none d s h k = at (2 ^ s) (pow-mono k)
+  where
+    at : (p : ℕ) → 2 ^ 54 ≤ p → (2 * d + p) / (2 * p) ≡ 0
+    at p l = div-eq-of-lt (omega arith)
 
 -- a common factor of the digits and the places goes out
 same-cut : (d A P : ℕ) → 0 < A → 0 < P → (2 * (d * A) + A * P) / (2 * (A * P)) ≡ (2 * d + P) / (2 * P)

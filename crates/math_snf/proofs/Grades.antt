@@ -8,7 +8,8 @@ use lib.Dec.{leb}
 use lib.IntN.{ℤ, pos, negsuc, natAbs, negℤ, _-ℤ_, _*ℤ_}
 use Rattle.definitions.specs.Lists.{all}
 use Rattle.definitions.specs.Matrix.{Matrix, at}
-use Rattle.definitions.specs.Snf.{State, Pass, small, row, column, lessRow, lessColumn, negateColumn, signed, clearRow, clearColumn, cleared}
+use Rattle.definitions.specs.Snf.{State, Pass, row, column, lessRow, lessColumn, negateColumn, signed, clearRow, clearColumn, cleared}
+use Rattle.definitions.specs.Limits.{small}
 use Rattle.math_matrix.specs.Solve.{var, con, _⊖_, _⊗_, minus, solve}
 use Rattle.math_snf_laws.specs.Cases.{plain, rowQuotient, rowCleared, row-cases, columnQuotient, columnCleared, column-cases}
 use Rattle.math_snf.specs.Step.{kept, keptRow, keptColumn, grade, worse, Graded, rowBelow, columnRight}

@@ -7,7 +7,7 @@ use lib.IntN.{ℤ, pos, negsuc, negℤ, natAbs}
 use mathlib.Core.Bool.{true, false}
 use lib.Dec.{leb, leb·suc-suc}
 use borrow.Author.Tests.{ltb-true, ltb-false, lt-leb, le-leb, leb-true}
-use Rattle.definitions.specs.Snf.{small}
+use Rattle.definitions.specs.Limits.{small}
 use Rattle.math_matrix.specs.Bounds.{abs-neg, fits-abs, back}
 use lib.Signed.{quotZ, mag, ltZ, leZ}
 use mir.Syntax.{w16, w32}

@@ -11,11 +11,11 @@ use Rattle.definitions.specs.Lists.{all, each}
 use Rattle.definitions.specs.Matrix.{Matrix}
 use Rattle.definitions.specs.declared.Verdict.the-variants.{Accepted, Refused}
 use Rattle.definitions.specs.Refusal.{Checked}
-use Rattle.definitions.specs.Checked.{holds, fails, untested, is-true, is-false, verdictOf, checked}
-use Rattle.definitions.specs.Snf.{State, Place, Stage, empty, last, again, start, small, sizeAt, pivot, pass, Leaves}
-use Rattle.definitions.specs.SnfLaws.{stays}
-use Rattle.definitions.specs.Standardize.{inRange}
+use Rattle.laws.specs.Verdicts.{holds, fails, untested, is-true, is-false, verdictOf, checked}
+use Rattle.definitions.specs.Snf.{State, Place, Stage, empty, last, again, start, sizeAt, pivot, pass, Leaves}
+use Rattle.math_snf_laws.specs.Unique.{stays}
 use Rattle.definitions.specs.Calls.{snfConditions, IsSnf}
+use Rattle.definitions.specs.Limits.{small, inRange}
 use Rattle.math_snf_laws.specs.Steps.{In, i00, i11, i22}
 use Rattle.math_snf_laws.specs.Pivot.{chosen}
 use Rattle.math_snf_laws.specs.Reduced.{falls}

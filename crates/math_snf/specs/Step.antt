@@ -10,7 +10,8 @@ use Rattle.definitions.specs.Lists.{all, each}
 use Rattle.math_snf.specs.declared.Pivot.{Pivot}
 use Rattle.math_snf.specs.declared.Pivot.the-variants.{At, Nothing}
 use Rattle.definitions.specs.Matrix.{Matrix, at, mat}
-use Rattle.definitions.specs.Snf.{State, Pass, Place, Stage, small, lesser, clearRow, clearColumn, pass, Run, allAssigned}
+use Rattle.definitions.specs.Snf.{State, Pass, Place, Stage, lesser, clearRow, clearColumn, pass, Run, allAssigned}
+use Rattle.definitions.specs.Limits.{small}
 use Rattle.math_snf_laws.specs.Cases.{plain}
 
 -- an assigned entry as 16 bits hold it: 512 stands for one that has left -511..511
@@ -67,7 +68,8 @@ abbrev pub passAt : ℕ → State → Option Place → Pass
 passAt s t none = plain t
 passAt s t (some p) = pass s p t
 
--- The stage s from t, by its definition, assigns entries in range only where b; where it does, the code has come to its end.
+-- The stage s from t, by its definition, assigns entries in range only where b; where it does, the code has come to its
+-- end.
 pub record Ended (s : ℕ) (t : State) (b : Bool) (t′ : State) : Type 0 where
   pub assigned : List (List ℤ)
   pub «end» : State

@@ -1,3 +1,4 @@
+// moyo's math/snf.rs: `SNF::new`, the diagonalisation of a matrix of whole numbers.
 ghost use mathlib.Core.Path.{_≡_};
 ghost use mathlib.Core.Bool.{_&&_, cond};
 ghost use mathlib.Core.List.{[], _∷_};
@@ -7,18 +8,22 @@ ghost use lib.IntN.{pos, natAbs, _-ℤ_, _*ℤ_};
 ghost use lib.Signed.{quotZ};
 ghost use Rattle.definitions.specs.Lists.{all};
 ghost use Rattle.definitions.specs.Matrix.{Matrix, at, item, three, identity};
-ghost use Rattle.definitions.specs.Snf.{small, swapped, swapRows, swapColumns, row, column, lesser, pivot, moved, signed, cleared, diagonal};
+ghost use Rattle.definitions.specs.Snf.{swapped, swapRows, swapColumns, row, column};
+ghost use Rattle.definitions.specs.Snf.{lesser, pivot, moved, signed, cleared};
 ghost use Rattle.math_snf_laws.specs.Cases.{plain};
-ghost use Rattle.math_snf.specs.Step.{kept, keptRow, keptColumn, worse, dlr, Graded, rowBelow, columnRight, placeOf, Inside, lesserFrom, leastInRow, passAt, Ended, Ran};
-ghost use Rattle.math_snf.specs.Call.{zeroMatrix, Answered};
-ghost use Rattle.definitions.specs.Calls.{snfConditions};
-ghost use Rattle.definitions.specs.Refusal.{Checked};
+ghost use Rattle.math_snf.specs.Step.{kept, keptRow, keptColumn, worse, dlr, Graded, rowBelow, columnRight};
+ghost use Rattle.math_snf.specs.Step.{placeOf, Inside, lesserFrom, leastInRow, passAt, Ended, Ran};
+ghost use Rattle.definitions.specs.Lent.{zeroMatrix};
+ghost use Rattle.definitions.specs.Calls.{SnfPromise};
 ghost use Rattle.definitions.specs.declared.Verdict.the-variants.{Refused};
-use base_checks::in_range;
+ghost use Rattle.definitions.specs.Limits.{small};
+use checks::in_range;
+use checks::magnitude16;
+use definitions::Linear;
+use definitions::SnfMatrix;
 use definitions::Verdict;
-
-// D, L or R
-type Mat = [[i16; 3]; 3];
+use definitions::refusal;
+use math_matrix::widened;
 
 // the place of the pivot, if one is left
 enum Pivot {
@@ -69,16 +74,6 @@ fn quotient(x: i16, y: i16) -> i32
     a / b
 }
 
-fn size(x: i16) -> i32
-    ensures { λ r. ⌜ r ≡ pos (natAbs x) ⌝ }
-{
-    let a = x as i32;
-    if a < 0 {
-        return 0 - a;
-    }
-    a
-}
-
 fn both(a: bool, b: bool) -> bool
     ensures { λ r. ⌜ r ≡ (a && b) ⌝ }
 {
@@ -118,7 +113,7 @@ fn line_less(a: usize, i: usize, x: [i16; 3], k: i32, y: [i16; 3]) -> [i16; 3]
 }
 
 // m with row i less k times row s
-fn less_row(m: Mat, i: usize, k: i32, s: usize) -> Mat
+fn less_row(m: SnfMatrix, i: usize, k: i32, s: usize) -> SnfMatrix
     requires { ⌜ s < 3 ⌝ }
     ensures { λ r. ⌜ r ≡ keptRow i k s m ⌝ }
 {
@@ -142,7 +137,7 @@ fn less_at(x: [i16; 3], j: usize, k: i32, s: usize) -> [i16; 3]
 }
 
 // m with column j less k times column s
-fn less_column(m: Mat, j: usize, k: i32, s: usize) -> Mat
+fn less_column(m: SnfMatrix, j: usize, k: i32, s: usize) -> SnfMatrix
     requires { ⌜ s < 3 ⌝ }
     ensures { λ r. ⌜ r ≡ keptColumn j k s m ⌝ }
 {
@@ -174,7 +169,7 @@ fn swap_index(a: usize, b: usize, i: usize) -> usize
     i
 }
 
-fn swap_rows(m: Mat, a: usize, b: usize) -> Mat
+fn swap_rows(m: SnfMatrix, a: usize, b: usize) -> SnfMatrix
     requires { ⌜ (a < 3) × (b < 3) ⌝ }
     ensures { λ r. ⌜ r ≡ swapRows a b m ⌝ }
 {
@@ -188,7 +183,7 @@ fn swap_rows(m: Mat, a: usize, b: usize) -> Mat
     ]
 }
 
-fn swap_columns(m: Mat, a: usize, b: usize) -> Mat
+fn swap_columns(m: SnfMatrix, a: usize, b: usize) -> SnfMatrix
     requires { ⌜ (a < 3) × (b < 3) ⌝ }
     ensures { λ r. ⌜ r ≡ swapColumns a b m ⌝ }
 {
@@ -214,14 +209,14 @@ fn line_small(x: [i16; 3]) -> bool
     three_small(x[0], x[1], x[2])
 }
 
-fn row_small(m: Mat, i: usize) -> bool
+fn row_small(m: SnfMatrix, i: usize) -> bool
     requires { ⌜ i < 3 ⌝ }
     ensures { λ r. ⌜ r ≡ all small (row i m) ⌝ }
 {
     line_small(m[i])
 }
 
-fn column_small(m: Mat, j: usize) -> bool
+fn column_small(m: SnfMatrix, j: usize) -> bool
     requires { ⌜ j < 3 ⌝ }
     ensures { λ r. ⌜ r ≡ all small (column j m) ⌝ }
 {
@@ -233,14 +228,14 @@ fn column_small(m: Mat, j: usize) -> bool
 
 // ---- the pivot
 
-fn size_at(m: Mat, i: usize, j: usize) -> i32
+fn size_at(m: SnfMatrix, i: usize, j: usize) -> usize
     requires { ⌜ (i < 3) × (j < 3) ⌝ }
-    ensures { λ r. ⌜ r ≡ pos (natAbs (at m i j)) ⌝ }
+    ensures { λ r. ⌜ r ≡ natAbs (at m i j) ⌝ }
 {
-    size(m[i][j])
+    magnitude16(m[i][j])
 }
 
-fn lesser_place(m: Mat, i: usize, j: usize, q: Pivot) -> Pivot
+fn lesser_place(m: SnfMatrix, i: usize, j: usize, q: Pivot) -> Pivot
     requires { ⌜ (i < 3) × (j < 3) × (Inside q) ⌝ }
     ensures { λ r. ⌜ placeOf r ≡ lesser m (i, j) (placeOf q) ⌝ }
     ensures { λ r. ⌜ Inside r ⌝ }
@@ -261,7 +256,7 @@ fn lesser_place(m: Mat, i: usize, j: usize, q: Pivot) -> Pivot
     }
 }
 
-fn lesser_from(m: Mat, s: usize, i: usize, j: usize, q: Pivot) -> Pivot
+fn lesser_from(m: SnfMatrix, s: usize, i: usize, j: usize, q: Pivot) -> Pivot
     requires { ⌜ (i < 3) × (j < 3) × (Inside q) ⌝ }
     ensures { λ r. ⌜ placeOf r ≡ lesserFrom s m (i, j) (placeOf q) ⌝ }
     ensures { λ r. ⌜ Inside r ⌝ }
@@ -275,7 +270,7 @@ fn lesser_from(m: Mat, s: usize, i: usize, j: usize, q: Pivot) -> Pivot
     lesser_place(m, i, j, q)
 }
 
-fn least_in_row(m: Mat, s: usize, i: usize, q: Pivot) -> Pivot
+fn least_in_row(m: SnfMatrix, s: usize, i: usize, q: Pivot) -> Pivot
     requires { ⌜ (i < 3) × (Inside q) ⌝ }
     ensures { λ r. ⌜ placeOf r ≡ leastInRow s m i (placeOf q) ⌝ }
     ensures { λ r. ⌜ Inside r ⌝ }
@@ -286,7 +281,7 @@ fn least_in_row(m: Mat, s: usize, i: usize, q: Pivot) -> Pivot
 }
 
 // of least magnitude, the first in row order
-fn pivot_from(m: Mat, s: usize) -> Pivot
+fn pivot_from(m: SnfMatrix, s: usize) -> Pivot
     requires { ⌜ s < 3 ⌝ }
     ensures { λ r. ⌜ placeOf r ≡ pivot s m ⌝ }
     ensures { λ r. ⌜ Inside r ⌝ }
@@ -296,7 +291,8 @@ fn pivot_from(m: Mat, s: usize) -> Pivot
     least_in_row(m, s, 0, y)
 }
 
-// ---- the steps of a pass, each with its grade: 0 nothing was cleared, 1 something was, 2 an assigned entry has left the range
+// ---- the steps of a pass, each with its grade: 0 nothing was cleared, 1 something was, 2 an assigned entry has left
+// the range
 
 fn graded(ok: bool, g: usize) -> usize
     ensures { λ r. ⌜ r ≡ cond ok g 2 ⌝ }
@@ -307,9 +303,11 @@ fn graded(ok: bool, g: usize) -> usize
     2
 }
 
-fn move_pivot(d: &mut Mat, l: &mut Mat, r: &mut Mat, s: usize, i: usize, j: usize)
+fn move_pivot(d: &mut SnfMatrix, l: &mut SnfMatrix, r: &mut SnfMatrix, s: usize, i: usize, j: usize)
     requires { ⌜ (s < 3) × (i < 3) × (j < 3) ⌝ }
-    ensures { λ _. ⌜ dlr (now (d .exit)) (now (l .exit)) (now (r .exit)) ≡ moved s (i, j) (dlr (now (d .entry)) (now (l .entry)) (now (r .entry))) ⌝ }
+    ensures { λ _. ⌜
+        dlr (now (d .exit)) (now (l .exit)) (now (r .exit))
+        ≡ moved s (i, j) (dlr (now (d .entry)) (now (l .entry)) (now (r .entry))) ⌝ }
 {
     *d = swap_columns(swap_rows(*d, s, i), s, j);
     *l = swap_rows(*l, s, i);
@@ -317,9 +315,10 @@ fn move_pivot(d: &mut Mat, l: &mut Mat, r: &mut Mat, s: usize, i: usize, j: usiz
 }
 
 // a negative pivot negates its column: the column less twice itself
-fn sign(d: &mut Mat, r: &mut Mat, s: usize) -> usize
+fn sign(d: &mut SnfMatrix, r: &mut SnfMatrix, s: usize) -> usize
     requires { ⌜ s < 3 ⌝ }
-    ensures { λ g. ⌜ ((l : Matrix) → Graded (signed s (dlr (now (d .entry)) l (now (r .entry)))) g (dlr (now (d .exit)) l (now (r .exit)))) ⌝ }
+    ensures { λ g. ⌜ ((l : Matrix) →
+        Graded (signed s (dlr (now (d .entry)) l (now (r .entry)))) g (dlr (now (d .exit)) l (now (r .exit)))) ⌝ }
 {
     let m = *d;
     let n = *r;
@@ -334,16 +333,18 @@ fn sign(d: &mut Mat, r: &mut Mat, s: usize) -> usize
 }
 
 // the quotient of an entry by the pivot
-fn by_pivot(m: Mat, i: usize, j: usize, s: usize) -> i32
+fn by_pivot(m: SnfMatrix, i: usize, j: usize, s: usize) -> i32
     requires { ⌜ (i < 3) × (j < 3) × (s < 3) ⌝ }
     ensures { λ r. ⌜ r ≡ quotZ (at m i j) (at m s s) ⌝ }
 {
     quotient(m[i][j], m[s][s])
 }
 
-fn clear_row(d: &mut Mat, l: &mut Mat, s: usize, i: usize) -> usize
+fn clear_row(d: &mut SnfMatrix, l: &mut SnfMatrix, s: usize, i: usize) -> usize
     requires { ⌜ (s < 3) × (i < 3) ⌝ }
-    ensures { λ g. ⌜ ((r : Matrix) → Graded (rowBelow s i (plain (dlr (now (d .entry)) (now (l .entry)) r))) g (dlr (now (d .exit)) (now (l .exit)) r)) ⌝ }
+    ensures { λ g. ⌜ ((r : Matrix) →
+        Graded (rowBelow s i (plain (dlr (now (d .entry)) (now (l .entry)) r))) g
+        (dlr (now (d .exit)) (now (l .exit)) r)) ⌝ }
 {
     if i <= s {
         return 0;
@@ -361,9 +362,11 @@ fn clear_row(d: &mut Mat, l: &mut Mat, s: usize, i: usize) -> usize
     graded(both(row_small(p, i), row_small(q, i)), 1)
 }
 
-fn clear_column(d: &mut Mat, r: &mut Mat, s: usize, j: usize) -> usize
+fn clear_column(d: &mut SnfMatrix, r: &mut SnfMatrix, s: usize, j: usize) -> usize
     requires { ⌜ (s < 3) × (j < 3) ⌝ }
-    ensures { λ g. ⌜ ((l : Matrix) → Graded (columnRight s j (plain (dlr (now (d .entry)) l (now (r .entry))))) g (dlr (now (d .exit)) l (now (r .exit)))) ⌝ }
+    ensures { λ g. ⌜ ((l : Matrix) →
+        Graded (columnRight s j (plain (dlr (now (d .entry)) l (now (r .entry))))) g
+        (dlr (now (d .exit)) l (now (r .exit)))) ⌝ }
 {
     if j <= s {
         return 0;
@@ -381,9 +384,11 @@ fn clear_column(d: &mut Mat, r: &mut Mat, s: usize, j: usize) -> usize
     graded(both(column_small(p, j), column_small(q, j)), 1)
 }
 
-fn sweep(d: &mut Mat, l: &mut Mat, r: &mut Mat, s: usize) -> usize
+fn sweep(d: &mut SnfMatrix, l: &mut SnfMatrix, r: &mut SnfMatrix, s: usize) -> usize
     requires { ⌜ s < 3 ⌝ }
-    ensures { λ g. ⌜ Graded (cleared s (signed s (dlr (now (d .entry)) (now (l .entry)) (now (r .entry))))) g (dlr (now (d .exit)) (now (l .exit)) (now (r .exit))) ⌝ }
+    ensures { λ g. ⌜
+        Graded (cleared s (signed s (dlr (now (d .entry)) (now (l .entry)) (now (r .entry))))) g
+        (dlr (now (d .exit)) (now (l .exit)) (now (r .exit))) ⌝ }
 {
     let a = sign(d, r, s);
     let b = worst(a, clear_row(d, l, s, 1));
@@ -392,9 +397,11 @@ fn sweep(d: &mut Mat, l: &mut Mat, r: &mut Mat, s: usize) -> usize
     worst(f, clear_column(d, r, s, 2))
 }
 
-fn one_pass(d: &mut Mat, l: &mut Mat, r: &mut Mat, s: usize) -> usize
+fn one_pass(d: &mut SnfMatrix, l: &mut SnfMatrix, r: &mut SnfMatrix, s: usize) -> usize
     requires { ⌜ s < 3 ⌝ }
-    ensures { λ g. ⌜ Graded (passAt s (dlr (now (d .entry)) (now (l .entry)) (now (r .entry))) (pivot s (now (d .entry)))) g (dlr (now (d .exit)) (now (l .exit)) (now (r .exit))) ⌝ }
+    ensures { λ g. ⌜
+        Graded (passAt s (dlr (now (d .entry)) (now (l .entry)) (now (r .entry))) (pivot s (now (d .entry)))) g
+        (dlr (now (d .exit)) (now (l .exit)) (now (r .exit))) ⌝ }
 {
     let p = pivot_from(*d, s);
     match p {
@@ -409,9 +416,11 @@ fn one_pass(d: &mut Mat, l: &mut Mat, r: &mut Mat, s: usize) -> usize
 // ---- stages
 
 // one stage; false where an assigned entry has left the range
-fn stage(d: &mut Mat, l: &mut Mat, r: &mut Mat, s: usize) -> bool
+fn stage(d: &mut SnfMatrix, l: &mut SnfMatrix, r: &mut SnfMatrix, s: usize) -> bool
     requires { ⌜ s < 3 ⌝ }
-    ensures { λ ok. ⌜ Ended s (dlr (now (d .entry)) (now (l .entry)) (now (r .entry))) ok (dlr (now (d .exit)) (now (l .exit)) (now (r .exit))) ⌝ }
+    ensures { λ ok. ⌜
+        Ended s (dlr (now (d .entry)) (now (l .entry)) (now (r .entry))) ok
+        (dlr (now (d .exit)) (now (l .exit)) (now (r .exit))) ⌝ }
 {
     let mut g: usize = 1;
     while g == 1 {
@@ -420,44 +429,21 @@ fn stage(d: &mut Mat, l: &mut Mat, r: &mut Mat, s: usize) -> bool
     g == 0
 }
 
-fn wide(x: i8) -> i16
-    ensures { λ r. ⌜ r ≡ x ⌝ }
-{
-    x as i16
-}
-
-fn wide_row(x: [i8; 3]) -> [i16; 3]
-    ensures { λ r. ⌜ r ≡ three (λ j. item x j) ⌝ }
-{
-    let p = wide(x[0]);
-    let q = wide(x[1]);
-    let t = wide(x[2]);
-    [p, q, t]
-}
-
-fn widened(m: [[i8; 3]; 3]) -> Mat
-    ensures { λ r. ⌜ r ≡ m ⌝ }
-{
-    let p = wide_row(m[0]);
-    let q = wide_row(m[1]);
-    let t = wide_row(m[2]);
-    [p, q, t]
-}
-
-fn zero() -> Mat
+fn zero() -> SnfMatrix
     ensures { λ r. ⌜ r ≡ zeroMatrix ⌝ }
 {
     [[0, 0, 0], [0, 0, 0], [0, 0, 0]]
 }
 
-fn unit() -> Mat
+fn unit() -> SnfMatrix
     ensures { λ r. ⌜ r ≡ identity ⌝ }
 {
     [[1, 0, 0], [0, 1, 0], [0, 0, 1]]
 }
 
-// D = m, L and R the identity, and the three stages; a stage that has left the range leaves the rest with nothing to say
-fn run(m: [[i8; 3]; 3], d: &mut Mat, l: &mut Mat, r: &mut Mat) -> bool
+// D = m, L and R the identity, and the three stages; a stage that has left the range leaves the rest with nothing
+// to say
+fn run(m: Linear, d: &mut SnfMatrix, l: &mut SnfMatrix, r: &mut SnfMatrix) -> bool
     ensures { λ ok. ⌜ Ran m ok (dlr (now (d .exit)) (now (l .exit)) (now (r .exit))) ⌝ }
 {
     *d = widened(m);
@@ -470,7 +456,7 @@ fn run(m: [[i8; 3]; 3], d: &mut Mat, l: &mut Mat, r: &mut Mat) -> bool
     both(both(a, b), c)
 }
 
-fn refuse(d: &mut Mat, l: &mut Mat, r: &mut Mat, k: usize) -> Verdict
+fn refuse(d: &mut SnfMatrix, l: &mut SnfMatrix, r: &mut SnfMatrix, k: usize) -> Verdict
     ensures { λ v. ⌜ v ≡ Refused k ⌝ }
     ensures { λ _. ⌜ dlr (now (d .exit)) (now (l .exit)) (now (r .exit)) ≡ dlr zeroMatrix zeroMatrix zeroMatrix ⌝ }
 {
@@ -482,30 +468,14 @@ fn refuse(d: &mut Mat, l: &mut Mat, r: &mut Mat, k: usize) -> Verdict
 }
 
 // moyo's `SNF::new`: D = L m R, or a refusal
-pub fn snf(
-    m: [[i8; 3]; 3],
-    d: &mut [[i16; 3]; 3],
-    l: &mut [[i16; 3]; 3],
-    r: &mut [[i16; 3]; 3],
-) -> Verdict
-    ensures { λ v. ⌜ Checked (snfConditions m) v ⌝ }
-    ensures { λ v. ⌜ Answered m v (record { d = now (d .exit); l = now (l .exit); r = now (r .exit) }) ⌝ }
+pub fn snf(m: Linear, d: &mut SnfMatrix, l: &mut SnfMatrix, r: &mut SnfMatrix) -> Verdict
+    ensures { λ v. ⌜ SnfPromise m (record { d = now (d .exit); l = now (l .exit); r = now (r .exit) }) v ⌝ }
 {
     if !in_range(m) {
-        return refuse(d, l, r, 3);
+        return refuse(d, l, r, refusal::MATRIX_ENTRY);
     }
     if !run(m, d, l, r) {
-        return refuse(d, l, r, 8);
+        return refuse(d, l, r, refusal::DIAGONALISATION);
     }
     Verdict::Accepted
-}
-
-// the diagonal of D
-pub fn invariant_factors(d: [[i16; 3]; 3]) -> [i16; 3]
-    ensures { λ r. ⌜ r ≡ diagonal d ⌝ }
-{
-    let first = d[0][0];
-    let second = d[1][1];
-    let third = d[2][2];
-    [first, second, third]
 }

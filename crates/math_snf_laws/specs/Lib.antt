@@ -1,3 +1,6 @@
+-- The diagonalising run: one a matrix, found by running it, and what every run has.
+pub mod Unique
+pub mod Evaluate
 pub mod Steps
 pub mod Pivot
 pub mod Cases

@@ -1,4 +1,5 @@
--- What a pass does to the pivot's row and column: it leaves less than the pivot there, and a pass that updates nothing leaves 0.
+-- What a pass does to the pivot's row and column: it leaves less than the pivot there, and a pass that updates nothing
+-- leaves 0.
 use Prim.Native.Nat.{ℕ, _<_, _≤_}
 use mathlib.Core.Path.{_≡_, refl, sym, ap, _∙_, subst}
 use mathlib.Core.Bool.{Bool, true, false, cond}

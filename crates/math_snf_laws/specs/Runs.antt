@@ -1,4 +1,5 @@
--- Every run of the diagonalisation: L M R = D with L and R of determinant 1 or -1, D diagonal and not below 0; there is one run and no other, and its stages are short.
+-- Every run of the diagonalisation: L M R = D with L and R of determinant 1 or -1, D diagonal and not below 0; there is
+-- one run and no other, and its stages are short.
 use Prim.Native.Nat.{ℕ, zero, suc, _*_, _<_, _≤_}
 use mathlib.Core.Path.{_≡_, refl, sym, ap, _∙_}
 use mathlib.Core.Bool.{cond}

@@ -1,4 +1,5 @@
--- A float of m * 2 ^ k units is nearest to the root of x, where n at the scale 2 ^ k is 4 x and m is half of n's root, rounded.
+-- A float of m * 2 ^ k units is nearest to the root of x, where n at the scale 2 ^ k is 4 x and m is half of n's root,
+-- rounded.
 use Prim.Native.Nat.{ℕ, suc, _+_, _*_, _-_, _≤_, _<_, _^_}
 use mathlib.Core.Path.{_≡_, sym, subst}
 use mathlib.Core.Bool.{Bool, false}

@@ -1,9 +1,9 @@
 -- The whole root of a number, cut, and the nearest whole number to half of it.
-use Prim.Native.Nat.{ℕ, zero, suc, _+_, _*_, _≤_, _<_, _^_, _/_, _%_}
+use Prim.Native.Nat.{ℕ, zero, suc, _+_, _*_, _-_, _≤_, _<_, _^_, _/_, _%_}
 use mathlib.Core.Path.{_≡_, refl, ap, _∙_}
 use mathlib.Core.Bool.{Bool, true, false, cond}
 use native.Mathlib.Omega.{arith}
-use native.Mathlib.Nat.{mul-le-mul, mul-le-mul-right, mul-lt-mul-of-pos-right, mul-pos, mul-left-comm, one-mul, pow-zero, pow-suc, pow-succ'}
+use native.Mathlib.Nat.{lt-of-not-le, div-add-mod', mod-lt, mul-le-mul, mul-le-mul-right, mul-lt-mul-of-pos-right, mul-pos, mul-left-comm, one-mul, pow-zero, pow-suc, pow-succ'}
 use native.Mathlib.Numerals.{add-one}
 use borrow.Author.Tests.{leb-true, leb-false}
 use lib.Dec.{leb}
@@ -49,7 +49,8 @@ root-cut (suc d) n h = step-cut n (rootCut d (n / 4)) (root-cut d (n / 4) (omega
 pub root-cut-is : (d n q r : ℕ) → n < 4 ^ d → IsRoot n q r → q ≡ rootCut d n
 root-cut-is d n q r h k = cut-unique n q (rootCut d n) (cut-of-root k) (root-cut d n h)
 
--- ---- half of the root, rounded: m for the root q of n is (q + 1) / 2. It is nearest to half the root of n, and an even n leaves no tie.
+-- ---- half of the root, rounded: m for the root q of n is (q + 1) / 2. It is nearest to half the root of n, and an
+-- even n leaves no tie.
 
 pub half-high : (n q : ℕ) → Cut n q → n < (2 * ((q + 1) / 2) + 1) * (2 * ((q + 1) / 2) + 1)
 half-high n q h =
@@ -92,7 +93,8 @@ end-below n m p u k l =
 
 -- ---- 54 digits of the root of w * 4 ^ 27, one at a time
 
--- After i of them: q and r are the root of the number's first i pairs of digits, and rest holds the pairs of w to come, the next at 2 ^ 52.
+-- After i of them: q and r are the root of the number's first i pairs of digits, and rest holds the pairs of w to come,
+-- the next at 2 ^ 52.
 pub record First (w i q r rest : ℕ) : Type 0 where
   pub few : i ≤ 54
   pub coming : rest < 2 ^ 54
@@ -121,3 +123,50 @@ first-more w i q r rest q′ r′ l h k n =
 
 pub first-all : (w q r rest : ℕ) → w < 2 ^ 54 → First w 54 q r rest → q ≡ rootCut 54 (w * 4 ^ 27)
 first-all w q r rest h k = root-cut-is 54 (w * 4 ^ 27) q r (omega arith) (record { whole = omega (arith, k .parts, k .coming); least = k .least })
+
+-- ---- the same 54 digits from the first 27
+
+-- s has 27 digits and r is left. The quotient d of one division, with u left, is the next 27, or one more.
+module _ (s r : ℕ) (low : 2 ^ 26 ≤ s) (least : r ≤ 2 * s) where
+  abbrev d : ℕ
+  d = r * 2 ^ 26 / s
+
+  abbrev u : ℕ
+  u = r * 2 ^ 26 % s
+
+  parts : d * s + u ≡ r * 2 ^ 26
+  parts = div-add-mod' (r * 2 ^ 26) s
+
+  pub second-left : u < s
+  second-left = mod-lt (r * 2 ^ 26) (omega arith)
+
+  pub second-few : d ≤ 2 ^ 27
+  second-few =
+      let h : d < 2 ^ 27 + 1 = lt-of-not-le (λ g. over g) in
+      omega arith
+    where
+      over : 2 ^ 27 + 1 ≤ d → ⊥
+      over g =
+          let h : (2 ^ 27 + 1) * s ≤ d * s = mul-le-mul-right s g in
+          omega (arith, parts)
+
+  pub second-square : d * d ≤ 2 ^ 27 * d
+  second-square = mul-le-mul-right d second-few
+
+  pub second-kept : d * d ≤ u * 2 ^ 28 → Cut ((s * s + r) * 4 ^ 27) (s * 2 ^ 27 + d)
+  second-kept h = record { low = omega (arith, parts); high = omega (arith, parts, second-left) }
+
+  pub second-less : u * 2 ^ 28 < d * d → Cut ((s * s + r) * 4 ^ 27) (s * 2 ^ 27 + d - 1)
+  second-less h = at (s * 2 ^ 27 + d - 1) (omega arith)
+    where
+      at : (q : ℕ) → q + 1 ≡ s * 2 ^ 27 + d → Cut ((s * s + r) * 4 ^ 27) q
+      at q e =
+          let f : (q + 1) * (q + 1) ≡ (s * 2 ^ 27 + d) * (s * 2 ^ 27 + d) = ap (λ (a : ℕ). a * a) e in
+          record { low = omega (arith, parts, second-few, second-square); high = omega (arith, parts) }
+
+-- what is cut of w * 4 ^ 27 is what `rootCut` gives
+pub cut-is : (w q : ℕ) → w < 2 ^ 54 → Cut (w * 4 ^ 27) q → (q ≡ rootCut 54 (w * 4 ^ 27)) × (q < 2 ^ 54)
+cut-is w q h k = (cut-unique (w * 4 ^ 27) q (rootCut 54 (w * 4 ^ 27)) k (root-cut 54 (w * 4 ^ 27) (omega arith)), lt-of-not-le (λ g. big g))
+  where
+    big : 2 ^ 54 ≤ q → ⊥
+    big g = omega (arith, k .low, mul-le-mul g g)

@@ -102,7 +102,8 @@ grid n k d = by (ltb (d .place) k) refl
         let h : d .place - k + k ≡ d .place = omega (arith, ltb-false (d .place) k e) in
         inl (d .digits * 2 ^ (d .place - k), d .is ∙ ap (λ (y : ℕ). d .digits * 2 ^ y) (sym h) ∙ ap (λ (y : ℕ). d .digits * y) (pow-add 2 (d .place - k) k) ∙ sym (mul-assoc _ _ _))
 
--- the next one up from m * 2 ^ k is no nearer than (m + 1) * 2 ^ k, and the next one down no nearer than (m - 1) * 2 ^ k
+-- the next one up from m * 2 ^ k is no nearer than (m + 1) * 2 ^ k, and the next one down no nearer than (m - 1) * 2 ^
+-- k
 pub next-up : (n m k : ℕ) → Digits n → 2 ^ 52 ≤ m → m * 2 ^ k < n → (m + 1) * 2 ^ k ≤ n
 next-up n m k d h l = ⊎-elim (λ g. rise (g .0) (g .1)) (λ g. absurd (low g)) (grid n k d)
   where

@@ -46,51 +46,6 @@ module _ (g : RealMatrix) (l00 l11 l22 : Float) (e0 : l00 ≡ sqrt (atF g 0 0)) 
   missing : tests g l00 l11 ≡ false → HandedBack (cholesky g) false (mat (λ i j. zeroF))
   missing t = rw (by-roots, t) (record { there = refl; value = refl })
 
-index-1-p0 : tie.Need-index-1-p0
-index-1-p0 c = search needs
-
-index-2-p0 : tie.Need-index-2-p0
-index-2-p0 c = search needs
-
-sqrt-requires : tie.Need-sqrt-requires
-sqrt-requires c κs = search needs
-
-index-1-l10 : tie.Need-index-1-l10
-index-1-l10 c = search needs
-
-index-2-l10 : tie.Need-index-2-l10
-index-2-l10 c = search needs
-
-index-1-p1 : tie.Need-index-1-p1
-index-1-p1 c = search needs
-
-index-2-p1 : tie.Need-index-2-p1
-index-2-p1 c = search needs
-
-sqrt-requires-2 : tie.Need-sqrt-requires-2
-sqrt-requires-2 c κs = search needs
-
-index-1-l20 : tie.Need-index-1-l20
-index-1-l20 c = search needs
-
-index-2-l20 : tie.Need-index-2-l20
-index-2-l20 c = search needs
-
-index-1-l21 : tie.Need-index-1-l21
-index-1-l21 c = search needs
-
-index-2-l21 : tie.Need-index-2-l21
-index-2-l21 c = search needs
-
-index-1-p2 : tie.Need-index-1-p2
-index-1-p2 c = search needs
-
-index-2-p2 : tie.Need-index-2-p2
-index-2-p2 c = search needs
-
-sqrt-requires-3 : tie.Need-sqrt-requires-3
-sqrt-requires-3 c κs = search needs
-
 returns : tie.Need-returns
 returns c =
     let s3 = c .before in
@@ -110,21 +65,6 @@ returns-2 c =
 pub cholesky-spec : {M : Type 1} → statement M
 cholesky-spec =
     tie.close
-    (tie.spec
-    index-1-p0
-    index-2-p0
-    sqrt-requires
-    index-1-l10
-    index-2-l10
-    index-1-p1
-    index-2-p1
-    sqrt-requires-2
-    index-1-l20
-    index-2-l20
-    index-1-l21
-    index-2-l21
-    index-1-p2
-    index-2-p2
-    sqrt-requires-3
-    returns
-    returns-2)
+    (tie.spec (search needs) (search needs) (search needs) (search needs) (search needs) (search needs) (search needs)
+    (search needs) (search needs) (search needs) (search needs) (search needs) (search needs) (search needs)
+    (search needs) returns returns-2)

@@ -1,37 +1,43 @@
--- The shift makes 2 ^ places, and nothing wraps: places is at most 54 and the digits are below 2 ^ 53.
-use Prim.Native.Nat.{ℕ, _*_, _%_, _^_, _≤_}
-use mathlib.Core.Path.{_≡_, ap, _∙_}
+-- Halves are counted down, and a half up is half of one more; past 54 places there is nothing.
+use Prim.Native.Nat.{ℕ, _+_, _*_, _-_, _/_, _^_, _≤_, _<_}
+use mathlib.Core.Path.{_≡_, sym, ap, _∙_}
 use native.Mathlib.Omega.{arith}
-use native.Mathlib.Nat.{one-mul, mod-eq-of-lt, lt-of-le-of-lt}
-use lib.Pow.{pow-mono, pow-pos}
-use lib.Dec.{lit<}
+use native.Mathlib.Nat.{mul-comm, add-div-right, div-div-eq-div-mul, div-le-self, lt-of-not-le}
+use native.Mathlib.Decide.{decLe}
+use lib.Pow.{pow-pos}
 use borrow.Author.Needs.{needs}
+use Rattle.math_round.specs.Value.{nearestPart, nearestPart-none}
 use Rattle.math_round.proofs.nearest_part.Statement.{statement}
 use Rattle.math_round.proofs.nearest_part.Tie as tie
 
-pow54 : (s : ℕ) → s ≤ 54 → 2 ^ s ≤ 2 ^ 54
-pow54 s h = pow-mono h
+halves : (d s : ℕ) → (2 * d / 2 ^ s + 1) / 2 ≡ nearestPart d s
+halves d s =
+    ap (λ y. y / 2) (sym (add-div-right (2 * d) (pow-pos s)))
+    ∙ div-div-eq-div-mul (2 * d + 2 ^ s) (2 ^ s) 2
+    ∙ ap (λ y. (2 * d + 2 ^ s) / y) (mul-comm (2 ^ s) 2)
 
-shl : (s : ℕ) → s ≤ 54 → 1 * 2 ^ s % 18446744073709551616 ≡ 2 ^ s
-shl s h = ap (λ y. y % 18446744073709551616) (one-mul (2 ^ s)) ∙ mod-eq-of-lt (lt-of-le-of-lt (pow54 s h) (lit< tt))
+same : (d f s : ℕ) → d < 2 ^ 53 → f < 1075 → s ≡ 54 - (f - 1021) → nearestPart d s ≡ nearestPart d (1075 - f)
+same d f s h l e = by (decLe 1021 f)
+  where
+    by : Dec (1021 ≤ f) → nearestPart d s ≡ nearestPart d (1075 - f)
+    by (yes k) = let near : s ≡ 1075 - f = omega arith in ap (nearestPart d) near
+    by (no n) =
+        let k = lt-of-not-le n in
+        nearestPart-none d s h (omega arith) ∙ sym (nearestPart-none d (1075 - f) h (omega arith))
 
-shl-one : tie.Need-shl-one
-shl-one c = search needs
-
-mul-result : tie.Need-mul-result
-mul-result c = search needs
+shr-halves : tie.Need-shr-halves
+shr-halves c = omega (arith, c .places .ensures)
 
 add-result : tie.Need-add-result
-add-result c = record { fits = omega (arith, shl (c .args .places) (c .pre .1), pow54 (c .args .places) (c .pre .1)) }
-
-mul-result-2 : tie.Need-mul-result-2
-mul-result-2 c = record { fits = omega (arith, shl (c .args .places) (c .pre .1), pow54 (c .args .places) (c .pre .1)) }
-
-div-result : tie.Need-div-result
-div-result c = rw (shl _ (c .pre .1)) (omega (arith, pow-pos (c .args .places)))
+add-result c = record { fits = omega (arith, div-le-self (2 * c .before .args .digits) (2 ^ c .places .result)) }
 
 returns : tie.Need-returns
-returns c = rw (shl _ (c .pre .1))
+returns c =
+    let a = c .before .args in
+    let s = c .places .result in
+    halves (a .digits) s ∙ same (a .digits) (a .field) s (c .before .pre .0) (c .before .pre .1) (c .places .ensures)
 
 pub nearest-part-spec : {M : Type 1} → statement M
-nearest-part-spec = tie.close (tie.spec shl-one mul-result add-result mul-result-2 div-result returns)
+nearest-part-spec =
+    tie.close
+    (tie.spec (search needs) (search needs) shr-halves add-result returns)

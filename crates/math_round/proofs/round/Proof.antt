@@ -1,17 +1,20 @@
 -- Each return is `roundAway x` by the law of its field, and the second clause follows from the first, as x fits.
-use Prim.Native.Nat.{_+_, _-_, _/_, _%_, _^_}
+use Prim.Native.Nat.{ℕ, _+_, _-_, _/_, _%_, _^_, _≤_, _<_}
 use mathlib.Core.Path.{_≡_, sym, ap, _∙_, subst}
 use mathlib.Core.Bool.{true, false, not}
 use native.Mathlib.Omega.{arith}
-use lib.Dec.{T, leb}
+use native.Mathlib.Nat.{lt-of-not-le}
+use native.Mathlib.Decide.{decLe}
+use lib.Dec.{T, eqb, leb}
 use lib.Ieee.{Float, nan, inf, fin, binary64, toBits, fits, isNan, ne}
 use lib.Ieee as Ieee
-use lib.Ieee.Bits.{ofBits-toBits}
+use lib.Ieee.Bits.{ofBits-toBits, toBits-lt}
 use lib.Ieee.Compare.{differs-from-itself, nan-differs}
 use borrow.Author.Needs.{needs}
+use borrow.Author.Tests.{eq-eqb, ne-eqb, le-leb, lt-leb}
 use Rattle.definitions.specs.Real.{roundAway, IsRound}
 use Rattle.math_round.specs.Value.{nearestPart-le}
-use Rattle.math_round.specs.Pattern.{bits-whole, bits-zero, bits-fraction}
+use Rattle.math_round.specs.Pattern.{bits-whole, bits-fraction}
 use Rattle.math_round.specs.Nearest.{round-is-nearest}
 use Rattle.math_round.proofs.round.Statement.{statement}
 use Rattle.math_round.proofs.round.Tie as tie
@@ -29,6 +32,13 @@ itself x e = rw (differs-from-itself x (subst T (sym e) tt))
 both : (x r : Float) → T (fits binary64 x) → r ≡ roundAway x → (r ≡ roundAway x) × IsRound x r
 both x r f e = (e, subst (IsRound x) (sym e) (round-is-nearest x f))
 
+sign : (b : ℕ) → b < 2 ^ 64 → eqb (b / 2 ^ 63) 1 ≡ leb (2 ^ 63) b
+sign b h = by (decLe (2 ^ 63) b)
+  where
+    by : Dec (2 ^ 63 ≤ b) → eqb (b / 2 ^ 63) 1 ≡ leb (2 ^ 63) b
+    by (yes l) = eq-eqb (b / 2 ^ 63) 1 (omega arith) ∙ sym (le-leb (2 ^ 63) b l)
+    by (no n) = let l = lt-of-not-le n in ne-eqb (b / 2 ^ 63) 1 (λ e. omega arith) ∙ sym (lt-leb (2 ^ 63) b l)
+
 returns : tie.Need-returns
 returns c = both (c .before .args .x) _ (search needs) (itself (c .before .args .x) (c .if1 .taken))
 
@@ -42,51 +52,23 @@ returns-2 c =
     both x x f (sym (subst (λ y. roundAway y ≡ y) (ofBits-toBits binary64 x f) (bits-whole (toBits binary64 x) (c .if2 .taken))))
 
 signed-whole-requires : tie.Need-signed-whole-requires
-signed-whole-requires c κs = search needs
+signed-whole-requires c κs =
+    let b = toBits binary64 (c .before .before .before .args .x) in
+    (rw (c .nearest-part .ensures) (nearestPart-le (4503599627370496 + b % 4503599627370496) (1075 - b % 9223372036854775808 / 4503599627370496) (2 ^ 53) (omega arith)), omega (arith, toBits-lt binary64 (c .before .before .before .args .x) (search needs)))
 
 returns-3 : tie.Need-returns-3
 returns-3 c =
     let x = c .before .before .before .before .args .x in
-    let f : T (fits binary64 x) = search needs in
-    both x (c .signed-whole .result) f
-    (c .signed-whole .ensures ∙ sym (bits-zero (toBits binary64 x) (c .before .if3 .taken)) ∙ ap roundAway (ofBits-toBits binary64 x f))
-
-add-digits : tie.Need-add-digits
-add-digits c = search needs
-
-sub-nearest-part : tie.Need-sub-nearest-part
-sub-nearest-part c = search needs
-
-nearest-part-requires : tie.Need-nearest-part-requires
-nearest-part-requires c κs = search needs
-
-signed-whole-requires-2 : tie.Need-signed-whole-requires-2
-signed-whole-requires-2 c κs =
-    let b = toBits binary64 (c .before .before .before .before .args .x) in
-    rw (c .nearest-part .ensures) (nearestPart-le (4503599627370496 + b % 4503599627370496) (1075 - b % 9223372036854775808 / 4503599627370496) (2 ^ 53) (omega arith))
-
-returns-4 : tie.Need-returns-4
-returns-4 c =
-    let x = c .before .before .before .before .before .args .x in
     let b = toBits binary64 x in
     let f : T (fits binary64 x) = search needs in
-    both x (c .signed-whole2 .result) f
-    (c .signed-whole2 .ensures
+    both x (c .signed-whole .result) f
+    (c .signed-whole .ensures
+    ∙ ap (λ s. Ieee.round binary64 s (c .before .nearest-part .result) 1) (sign b (toBits-lt binary64 x f))
     ∙ ap (λ n. Ieee.round binary64 (leb (2 ^ 63) b) n 1) (c .before .nearest-part .ensures)
-    ∙ sym (bits-fraction b (omega arith) (omega arith))
+    ∙ sym (bits-fraction b (omega arith))
     ∙ ap roundAway (ofBits-toBits binary64 x f))
 
 pub round-spec : {M : Type 1} → statement M
 round-spec =
     tie.close
-    (tie.spec
-    returns
-    float-to-bits-bits
-    returns-2
-    signed-whole-requires
-    returns-3
-    add-digits
-    sub-nearest-part
-    nearest-part-requires
-    signed-whole-requires-2
-    returns-4)
+    (tie.spec returns float-to-bits-bits returns-2 (search needs) (search needs) signed-whole-requires returns-3)

@@ -15,33 +15,12 @@ use Rattle.math_snf.proofs.clear_row.Tie as tie
 returns : tie.Need-returns
 returns c = λ _. rw (le-leb (c .before .args .i) (c .before .args .s) (c .if1 .taken)) (graded-none _)
 
-by-pivot-requires : tie.Need-by-pivot-requires
-by-pivot-requires c κs = search needs
-
 returns-2 : tie.Need-returns-2
 returns-2 c = λ _.
     let s = c .before .before .before .before .before in
     let q = c .before .by-pivot in
     rw (lt-leb (s .args .i) (s .args .s) (c .before .before .before .before .if1 .left))
     (row-not (s .args .s) (s .args .i) _ (ap natAbs (sym (q .ensures) ∙ zero-32 (q .result) (q .ok) (c .if2 .taken))))
-
-less-row-requires : tie.Need-less-row-requires
-less-row-requires c κs = search needs
-
-less-row-requires-2 : tie.Need-less-row-requires-2
-less-row-requires-2 c κs = search needs
-
-row-small-requires : tie.Need-row-small-requires
-row-small-requires c κs = search needs
-
-row-small-requires-2 : tie.Need-row-small-requires-2
-row-small-requires-2 c κs = search needs
-
-both-requires : tie.Need-both-requires
-both-requires c κs = search needs
-
-graded-requires : tie.Need-graded-requires
-graded-requires c κs = search needs
 
 returns-3 : tie.Need-returns-3
 returns-3 c = λ _.
@@ -58,14 +37,5 @@ returns-3 c = λ _.
 pub clear-row-spec : {M : Type 1} → statement M
 clear-row-spec =
     tie.close
-    (tie.spec
-    returns
-    by-pivot-requires
-    returns-2
-    less-row-requires
-    less-row-requires-2
-    row-small-requires
-    row-small-requires-2
-    both-requires
-    graded-requires
-    returns-3)
+    (tie.spec returns (λ c κs. search needs) returns-2 (λ c κs. search needs) (λ c κs. search needs)
+    (λ c κs. search needs) (λ c κs. search needs) (λ c κs. search needs) (λ c κs. search needs) returns-3)

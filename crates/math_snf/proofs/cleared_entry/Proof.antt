@@ -6,12 +6,6 @@ use Rattle.math_matrix.specs.Bounds.{back}
 use Rattle.math_snf.proofs.cleared_entry.Statement.{statement}
 use Rattle.math_snf.proofs.cleared_entry.Tie as tie
 
-less-times-requires : tie.Need-less-times-requires
-less-times-requires c κs = search needs
-
-kept-entry-requires : tie.Need-kept-entry-requires
-kept-entry-requires c κs = search needs
-
 returns : tie.Need-returns
 returns c =
     let s = c .before .before .before in
@@ -25,4 +19,6 @@ returns-2 : tie.Need-returns-2
 returns-2 c = simp (toZ-ofZ, c .before .fits .x) (rw (ne-eqb (c .before .args .a) (c .before .args .i) (c .if1 .left)))
 
 pub cleared-entry-spec : {M : Type 1} → statement M
-cleared-entry-spec = tie.close (tie.spec less-times-requires kept-entry-requires returns returns-2)
+cleared-entry-spec =
+    tie.close
+    (tie.spec (λ c κs. search needs) (λ c κs. search needs) returns returns-2)

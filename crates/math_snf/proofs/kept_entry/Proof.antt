@@ -1,7 +1,7 @@
 use mathlib.Core.Path.{_≡_}
 use mathlib.Core.Bool.{true}
 use mir.ValLaws.{toZ-ofZ}
-use Rattle.definitions.specs.Snf.{small}
+use Rattle.definitions.specs.Limits.{small}
 use Rattle.math_snf.specs.Step.{kept}
 use Rattle.math_snf.proofs.Ints.{low-not-small, high-not-small, between-small, small-fits}
 use Rattle.math_snf.proofs.kept_entry.Statement.{statement}

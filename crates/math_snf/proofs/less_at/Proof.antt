@@ -6,30 +6,6 @@ use Rattle.math_matrix.specs.Bounds.{back}
 use Rattle.math_snf.proofs.less_at.Statement.{statement}
 use Rattle.math_snf.proofs.less_at.Tie as tie
 
-mul-y : tie.Need-mul-y
-mul-y c = search needs
-
-array-copy-out-y : tie.Need-array-copy-out-y
-array-copy-out-y c = search needs
-
-array-copy-out-cleared-entry : tie.Need-array-copy-out-cleared-entry
-array-copy-out-cleared-entry c = search needs
-
-cleared-entry-requires : tie.Need-cleared-entry-requires
-cleared-entry-requires c κs = search needs
-
-array-copy-out-cleared-entry-2 : tie.Need-array-copy-out-cleared-entry-2
-array-copy-out-cleared-entry-2 c = search needs
-
-cleared-entry-requires-2 : tie.Need-cleared-entry-requires-2
-cleared-entry-requires-2 c κs = search needs
-
-array-copy-out-cleared-entry-3 : tie.Need-array-copy-out-cleared-entry-3
-array-copy-out-cleared-entry-3 c = search needs
-
-cleared-entry-requires-3 : tie.Need-cleared-entry-requires-3
-cleared-entry-requires-3 c κs = search needs
-
 returns : tie.Need-returns
 returns c =
     let s = c .before .before .before .before .before .before .before in
@@ -52,13 +28,5 @@ returns c =
 pub less-at-spec : {M : Type 1} → statement M
 less-at-spec =
     tie.close
-    (tie.spec
-    mul-y
-    array-copy-out-y
-    array-copy-out-cleared-entry
-    cleared-entry-requires
-    array-copy-out-cleared-entry-2
-    cleared-entry-requires-2
-    array-copy-out-cleared-entry-3
-    cleared-entry-requires-3
-    returns)
+    (tie.spec (λ c. search needs) (λ c. search needs) (λ c. search needs) (λ c κs. search needs) (λ c. search needs)
+    (λ c κs. search needs) (λ c. search needs) (λ c κs. search needs) returns)

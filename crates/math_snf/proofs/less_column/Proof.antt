@@ -4,24 +4,6 @@ use Rattle.math_snf.specs.Step.{keptColumn}
 use Rattle.math_snf.proofs.less_column.Statement.{statement}
 use Rattle.math_snf.proofs.less_column.Tie as tie
 
-array-copy-out-less-at : tie.Need-array-copy-out-less-at
-array-copy-out-less-at c = search needs
-
-less-at-requires : tie.Need-less-at-requires
-less-at-requires c κs = search needs
-
-array-copy-out-less-at-2 : tie.Need-array-copy-out-less-at-2
-array-copy-out-less-at-2 c = search needs
-
-less-at-requires-2 : tie.Need-less-at-requires-2
-less-at-requires-2 c κs = search needs
-
-array-copy-out-less-at-3 : tie.Need-array-copy-out-less-at-3
-array-copy-out-less-at-3 c = search needs
-
-less-at-requires-3 : tie.Need-less-at-requires-3
-less-at-requires-3 c κs = search needs
-
 returns : tie.Need-returns
 unfolding keptColumn
 returns c =
@@ -31,11 +13,5 @@ returns c =
 pub less-column-spec : {M : Type 1} → statement M
 less-column-spec =
     tie.close
-    (tie.spec
-    array-copy-out-less-at
-    less-at-requires
-    array-copy-out-less-at-2
-    less-at-requires-2
-    array-copy-out-less-at-3
-    less-at-requires-3
-    returns)
+    (tie.spec (λ c. search needs) (λ c κs. search needs) (λ c. search needs) (λ c κs. search needs)
+    (λ c. search needs) (λ c κs. search needs) returns)

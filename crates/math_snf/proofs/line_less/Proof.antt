@@ -6,33 +6,6 @@ use Rattle.math_matrix.specs.Bounds.{back}
 use Rattle.math_snf.proofs.line_less.Statement.{statement}
 use Rattle.math_snf.proofs.line_less.Tie as tie
 
-array-copy-out-cleared-entry : tie.Need-array-copy-out-cleared-entry
-array-copy-out-cleared-entry c = search needs
-
-array-copy-out-cleared-entry-2 : tie.Need-array-copy-out-cleared-entry-2
-array-copy-out-cleared-entry-2 c = search needs
-
-cleared-entry-requires : tie.Need-cleared-entry-requires
-cleared-entry-requires c κs = search needs
-
-array-copy-out-cleared-entry-3 : tie.Need-array-copy-out-cleared-entry-3
-array-copy-out-cleared-entry-3 c = search needs
-
-array-copy-out-cleared-entry-4 : tie.Need-array-copy-out-cleared-entry-4
-array-copy-out-cleared-entry-4 c = search needs
-
-cleared-entry-requires-2 : tie.Need-cleared-entry-requires-2
-cleared-entry-requires-2 c κs = search needs
-
-array-copy-out-cleared-entry-5 : tie.Need-array-copy-out-cleared-entry-5
-array-copy-out-cleared-entry-5 c = search needs
-
-array-copy-out-cleared-entry-6 : tie.Need-array-copy-out-cleared-entry-6
-array-copy-out-cleared-entry-6 c = search needs
-
-cleared-entry-requires-3 : tie.Need-cleared-entry-requires-3
-cleared-entry-requires-3 c κs = search needs
-
 returns : tie.Need-returns
 returns c =
     let s = c .before .before .before .before .before .before .before .before .before in
@@ -57,14 +30,5 @@ returns c =
 pub line-less-spec : {M : Type 1} → statement M
 line-less-spec =
     tie.close
-    (tie.spec
-    array-copy-out-cleared-entry
-    array-copy-out-cleared-entry-2
-    cleared-entry-requires
-    array-copy-out-cleared-entry-3
-    array-copy-out-cleared-entry-4
-    cleared-entry-requires-2
-    array-copy-out-cleared-entry-5
-    array-copy-out-cleared-entry-6
-    cleared-entry-requires-3
-    returns)
+    (tie.spec (λ c. search needs) (λ c. search needs) (λ c κs. search needs) (λ c. search needs) (λ c. search needs)
+    (λ c κs. search needs) (λ c. search needs) (λ c. search needs) (λ c κs. search needs) returns)

@@ -5,18 +5,6 @@ use Rattle.math_matrix.specs.Bounds.{back}
 use Rattle.math_snf.proofs.line_small.Statement.{statement}
 use Rattle.math_snf.proofs.line_small.Tie as tie
 
-array-copy-out-three-small : tie.Need-array-copy-out-three-small
-array-copy-out-three-small c = search needs
-
-array-copy-out-three-small-2 : tie.Need-array-copy-out-three-small-2
-array-copy-out-three-small-2 c = search needs
-
-array-copy-out-three-small-3 : tie.Need-array-copy-out-three-small-3
-array-copy-out-three-small-3 c = search needs
-
-three-small-requires : tie.Need-three-small-requires
-three-small-requires c κs = search needs
-
 returns : tie.Need-returns
 returns c =
     let s = c .before .before .before .before in
@@ -30,9 +18,4 @@ returns c =
 pub line-small-spec : {M : Type 1} → statement M
 line-small-spec =
     tie.close
-    (tie.spec
-    array-copy-out-three-small
-    array-copy-out-three-small-2
-    array-copy-out-three-small-3
-    three-small-requires
-    returns)
+    (tie.spec (λ c. search needs) (λ c. search needs) (λ c. search needs) (λ c κs. search needs) returns)

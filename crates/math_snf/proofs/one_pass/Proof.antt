@@ -8,23 +8,11 @@ use Rattle.math_snf.proofs.Grades.{graded-none}
 use Rattle.math_snf.proofs.one_pass.Statement.{statement}
 use Rattle.math_snf.proofs.one_pass.Tie as tie
 
-pivot-from-requires : tie.Need-pivot-from-requires
-pivot-from-requires c κs = search needs
-
-enum-told : tie.Need-enum-told
-enum-told c = search needs
-
-enum-known-p : tie.Need-enum-known-p
-enum-known-p c = search needs
-
 move-pivot-requires : tie.Need-move-pivot-requires
 move-pivot-requires c κs =
     let e : c .before .before .before .before .before .before .pivot-from .result ≡ At (c .before .before .before .before .p .given .0 .0) (c .before .before .before .before .p .given .0 .1 .0) = search needs in
     let h = subst Inside e (c .before .before .before .before .before .before .pivot-from .ensures .1) in
     (c .before .before .before .before .before .before .before .before .pre, h .0, h .1)
-
-sweep-requires : tie.Need-sweep-requires
-sweep-requires c κs = search needs
 
 returns : tie.Need-returns
 returns c =
@@ -45,11 +33,5 @@ returns-2 c =
 pub one-pass-spec : {M : Type 1} → statement M
 one-pass-spec =
     tie.close
-    (tie.spec
-    pivot-from-requires
-    enum-told
-    enum-known-p
-    move-pivot-requires
-    sweep-requires
-    returns
-    returns-2)
+    (tie.spec (λ c κs. search needs) (λ c. search needs) (λ c. search needs) move-pivot-requires
+    (λ c κs. search needs) returns returns-2)

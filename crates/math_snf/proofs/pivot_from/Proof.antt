@@ -3,15 +3,6 @@ use Rattle.math_snf.proofs.Pivots.{pivot-is}
 use Rattle.math_snf.proofs.pivot_from.Statement.{statement}
 use Rattle.math_snf.proofs.pivot_from.Tie as tie
 
-least-in-row-requires : tie.Need-least-in-row-requires
-least-in-row-requires c κs = search needs
-
-least-in-row-requires-2 : tie.Need-least-in-row-requires-2
-least-in-row-requires-2 c κs = search needs
-
-least-in-row-requires-3 : tie.Need-least-in-row-requires-3
-least-in-row-requires-3 c κs = search needs
-
 returns : tie.Need-returns
 returns c =
     let s = c .before .before .before in
@@ -20,4 +11,4 @@ returns c =
 pub pivot-from-spec : {M : Type 1} → statement M
 pivot-from-spec =
     tie.close
-    (tie.spec least-in-row-requires least-in-row-requires-2 least-in-row-requires-3 returns)
+    (tie.spec (λ c κs. search needs) (λ c κs. search needs) (λ c κs. search needs) returns)

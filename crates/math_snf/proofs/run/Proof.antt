@@ -6,27 +6,6 @@ use Rattle.math_snf.proofs.Stages.{ran}
 use Rattle.math_snf.proofs.run.Statement.{statement}
 use Rattle.math_snf.proofs.run.Tie as tie
 
-widened-requires : tie.Need-widened-requires
-widened-requires c κs = search needs
-
-unit-requires : tie.Need-unit-requires
-unit-requires c κs = search needs
-
-stage-requires : tie.Need-stage-requires
-stage-requires c κs = search needs
-
-stage-requires-2 : tie.Need-stage-requires-2
-stage-requires-2 c κs = search needs
-
-stage-requires-3 : tie.Need-stage-requires-3
-stage-requires-3 c κs = search needs
-
-both-requires : tie.Need-both-requires
-both-requires c κs = search needs
-
-both-requires-2 : tie.Need-both-requires-2
-both-requires-2 c κs = search needs
-
 returns : tie.Need-returns
 returns c =
     let m = c .before .before .before .before .before .before .before .before .before .before .before .before .before .before .before .before .args .m in
@@ -38,12 +17,5 @@ returns c =
 pub run-spec : {M : Type 1} → statement M
 run-spec =
     tie.close
-    (tie.spec
-    widened-requires
-    unit-requires
-    stage-requires
-    stage-requires-2
-    stage-requires-3
-    both-requires
-    both-requires-2
-    returns)
+    (tie.spec (λ c κs. search needs) (λ c κs. search needs) (λ c κs. search needs) (λ c κs. search needs)
+    (λ c κs. search needs) (λ c κs. search needs) (λ c κs. search needs) returns)

@@ -7,23 +7,11 @@ use borrow.Author.Tests.{not-true, not-false}
 use Rattle.math_snf.proofs.snf.Statement.{statement}
 use Rattle.math_snf.proofs.snf.Tie as tie
 
-in-range-requires : tie.Need-in-range-requires
-in-range-requires c κs = search needs
-
-refuse-requires : tie.Need-refuse-requires
-refuse-requires c κs = search needs
-
 returns : tie.Need-returns
 returns c =
     let s = c .before .before .before .before .before in
     rw (c .refuse .ensures .0)
     (refuses-entry (s .before .args .m) (sym (s .in-range .ensures) ∙ not-true (s .in-range .result) (c .before .before .before .before .if1 .taken)), c .refuse .ensures .1)
-
-run-requires : tie.Need-run-requires
-run-requires c κs = search needs
-
-refuse-requires-2 : tie.Need-refuse-requires-2
-refuse-requires-2 c κs = search needs
 
 returns-2 : tie.Need-returns-2
 returns-2 c =
@@ -47,11 +35,5 @@ returns-3 c =
 pub snf-spec : {M : Type 1} → statement M
 snf-spec =
     tie.close
-    (tie.spec
-    in-range-requires
-    refuse-requires
-    returns
-    run-requires
-    refuse-requires-2
-    returns-2
-    returns-3)
+    (tie.spec (λ c κs. search needs) (λ c κs. search needs) returns (λ c κs. search needs) (λ c κs. search needs)
+    returns-2 returns-3)

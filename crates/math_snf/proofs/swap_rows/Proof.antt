@@ -2,42 +2,6 @@ use borrow.Author.Needs.{needs}
 use Rattle.math_snf.proofs.swap_rows.Statement.{statement}
 use Rattle.math_snf.proofs.swap_rows.Tie as tie
 
-swap-index-requires : tie.Need-swap-index-requires
-swap-index-requires c κs = search needs
-
-swap-index-requires-2 : tie.Need-swap-index-requires-2
-swap-index-requires-2 c κs = search needs
-
-swap-index-requires-3 : tie.Need-swap-index-requires-3
-swap-index-requires-3 c κs = search needs
-
-mul-picked : tie.Need-mul-picked
-mul-picked c = search needs
-
-array-copy-out-picked : tie.Need-array-copy-out-picked
-array-copy-out-picked c = search needs
-
-picked-requires : tie.Need-picked-requires
-picked-requires c κs = search needs
-
-mul-picked-2 : tie.Need-mul-picked-2
-mul-picked-2 c = search needs
-
-array-copy-out-picked-2 : tie.Need-array-copy-out-picked-2
-array-copy-out-picked-2 c = search needs
-
-picked-requires-2 : tie.Need-picked-requires-2
-picked-requires-2 c κs = search needs
-
-mul-picked-3 : tie.Need-mul-picked-3
-mul-picked-3 c = search needs
-
-array-copy-out-picked-3 : tie.Need-array-copy-out-picked-3
-array-copy-out-picked-3 c = search needs
-
-picked-requires-3 : tie.Need-picked-requires-3
-picked-requires-3 c κs = search needs
-
 returns : tie.Need-returns
 returns c =
     simp (c .before .before .before .before .picked .ensures, c .before .before .picked2 .ensures, c .picked3 .ensures, c .before .before .before .before .before .before .before .before .swap-index .ensures .0, c .before .before .before .before .before .before .before .swap-index2 .ensures .0, c .before .before .before .before .before .before .swap-index3 .ensures .0)
@@ -45,17 +9,6 @@ returns c =
 pub swap-rows-spec : {M : Type 1} → statement M
 swap-rows-spec =
     tie.close
-    (tie.spec
-    swap-index-requires
-    swap-index-requires-2
-    swap-index-requires-3
-    mul-picked
-    array-copy-out-picked
-    picked-requires
-    mul-picked-2
-    array-copy-out-picked-2
-    picked-requires-2
-    mul-picked-3
-    array-copy-out-picked-3
-    picked-requires-3
-    returns)
+    (tie.spec (λ c κs. search needs) (λ c κs. search needs) (λ c κs. search needs) (λ c. search needs)
+    (λ c. search needs) (λ c κs. search needs) (λ c. search needs) (λ c. search needs) (λ c κs. search needs)
+    (λ c. search needs) (λ c. search needs) (λ c κs. search needs) returns)

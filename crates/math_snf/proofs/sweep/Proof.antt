@@ -3,33 +3,6 @@ use Rattle.math_snf.proofs.Grades.{sweep-graded}
 use Rattle.math_snf.proofs.sweep.Statement.{statement}
 use Rattle.math_snf.proofs.sweep.Tie as tie
 
-sign-requires : tie.Need-sign-requires
-sign-requires c κs = search needs
-
-clear-row-requires : tie.Need-clear-row-requires
-clear-row-requires c κs = search needs
-
-worst-requires : tie.Need-worst-requires
-worst-requires c κs = search needs
-
-clear-row-requires-2 : tie.Need-clear-row-requires-2
-clear-row-requires-2 c κs = search needs
-
-worst-requires-2 : tie.Need-worst-requires-2
-worst-requires-2 c κs = search needs
-
-clear-column-requires : tie.Need-clear-column-requires
-clear-column-requires c κs = search needs
-
-worst-requires-3 : tie.Need-worst-requires-3
-worst-requires-3 c κs = search needs
-
-clear-column-requires-2 : tie.Need-clear-column-requires-2
-clear-column-requires-2 c κs = search needs
-
-worst-requires-4 : tie.Need-worst-requires-4
-worst-requires-4 c κs = search needs
-
 returns : tie.Need-returns
 returns c =
     let s = c .before .before .before .before .before .before .before .before .before .before .before .before .before .before .before .before .before .before .before in
@@ -48,14 +21,6 @@ returns c =
 pub sweep-spec : {M : Type 1} → statement M
 sweep-spec =
     tie.close
-    (tie.spec
-    sign-requires
-    clear-row-requires
-    worst-requires
-    clear-row-requires-2
-    worst-requires-2
-    clear-column-requires
-    worst-requires-3
-    clear-column-requires-2
-    worst-requires-4
+    (tie.spec (λ c κs. search needs) (λ c κs. search needs) (λ c κs. search needs) (λ c κs. search needs)
+    (λ c κs. search needs) (λ c κs. search needs) (λ c κs. search needs) (λ c κs. search needs) (λ c κs. search needs)
     returns)

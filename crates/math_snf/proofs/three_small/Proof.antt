@@ -1,24 +1,9 @@
 use borrow.Author.Needs.{needs}
 use mir.ValLaws.{toZ-ofZ}
-use Rattle.definitions.specs.Snf.{small}
+use Rattle.definitions.specs.Limits.{small}
 use Rattle.math_snf.proofs.Grades.{all-three}
 use Rattle.math_snf.proofs.three_small.Statement.{statement}
 use Rattle.math_snf.proofs.three_small.Tie as tie
-
-is-small-requires : tie.Need-is-small-requires
-is-small-requires c κs = search needs
-
-is-small-requires-2 : tie.Need-is-small-requires-2
-is-small-requires-2 c κs = search needs
-
-is-small-requires-3 : tie.Need-is-small-requires-3
-is-small-requires-3 c κs = search needs
-
-both-requires : tie.Need-both-requires
-both-requires c κs = search needs
-
-both-requires-2 : tie.Need-both-requires-2
-both-requires-2 c κs = search needs
 
 returns : tie.Need-returns
 returns c =
@@ -29,10 +14,5 @@ returns c =
 pub three-small-spec : {M : Type 1} → statement M
 three-small-spec =
     tie.close
-    (tie.spec
-    is-small-requires
-    is-small-requires-2
-    is-small-requires-3
-    both-requires
-    both-requires-2
-    returns)
+    (tie.spec (λ c κs. search needs) (λ c κs. search needs) (λ c κs. search needs) (λ c κs. search needs)
+    (λ c κs. search needs) returns)

@@ -19,15 +19,6 @@ loop-holds c = first-none _ (c .pre)
 root-step-requires : tie.Need-root-step-requires Inv-loop μ-loop
 root-step-requires c κs = (omega (arith, first-narrow (c .before .loop .inv)), c .before .loop .inv .least, omega (arith, c .before .loop .inv .coming))
 
-mul-rest : tie.Need-mul-rest Inv-loop μ-loop
-mul-rest c = search needs
-
-add-i : tie.Need-add-i Inv-loop μ-loop
-add-i c = search needs
-
-loop-less : tie.Need-loop-less Inv-loop μ-loop
-loop-less c = search needs
-
 loop-again : tie.Need-loop-again Inv-loop μ-loop
 loop-again c =
     let l : c .before .before .loop .i < 54 = omega arith in
@@ -40,4 +31,7 @@ returns c =
     (first-all _ _ _ _ (c .before .before .pre) (rw e at h), first-narrow h)
 
 pub root-digits-spec : {M : Type 1} → statement M
-root-digits-spec = tie.close (tie.spec Inv-loop μ-loop loop-holds root-step-requires mul-rest add-i loop-less loop-again returns)
+root-digits-spec =
+    tie.close
+    (tie.spec Inv-loop μ-loop loop-holds root-step-requires (search needs) (search needs) (search needs) loop-again
+    returns)

@@ -65,15 +65,6 @@ returns c =
     let e = same-pattern _ _ u v _ (c .root-pattern .ensures .0) (shifted-is t (above s) (s .before .pre .1) _ (omega (arith, front s, short s))) (omega (arith, front s, short s)) in
     (e ∙ sym (of-zero x t z), c .root-pattern .ensures .1)
 
-add-root-pattern : tie.Need-add-root-pattern
-add-root-pattern c = search needs
-
-add-root-pattern-2 : tie.Need-add-root-pattern-2
-add-root-pattern-2 c = search needs
-
-root-pattern-requires-2 : tie.Need-root-pattern-requires-2
-root-pattern-requires-2 c κs = search needs
-
 returns-2 : tie.Need-returns-2
 returns-2 c =
     let x = c .before .before .args .x in
@@ -84,14 +75,5 @@ returns-2 c =
 pub root-of-fields-spec : {M : Type 1} → statement M
 root-of-fields-spec =
     tie.close
-    (tie.spec
-    cast-s
-    sub-s
-    shl-root-pattern
-    sub-root-pattern
-    root-pattern-requires
-    returns
-    add-root-pattern
-    add-root-pattern-2
-    root-pattern-requires-2
-    returns-2)
+    (tie.spec cast-s sub-s shl-root-pattern sub-root-pattern root-pattern-requires returns (search needs)
+    (search needs) (search needs) returns-2)

@@ -10,29 +10,14 @@ use borrow.Author.Needs.{needs}
 use Rattle.math_sqrt.proofs.root_pattern.Statement.{statement}
 use Rattle.math_sqrt.proofs.root_pattern.Tie as tie
 
-add-root-digits : tie.Need-add-root-digits
-add-root-digits c = search needs
-
 moved-fits : (t a : ℕ) → t < 2 ^ 53 → a ≤ 2 → Fits w64 (t * a)
 moved-fits t a h l = record { fits = omega (arith, moved-lt t a h l) }
 
-mul-root-digits : tie.Need-mul-root-digits
-mul-root-digits c = moved-fits (c .args .t) _ (c .pre .0) (omega arith)
+mul-root-guessed : tie.Need-mul-root-guessed
+mul-root-guessed c = moved-fits (c .args .t) _ (c .pre .0) (omega arith)
 
-root-digits-requires : tie.Need-root-digits-requires
-root-digits-requires c κs = moved-lt (c .args .t) _ (c .pre .0) (omega arith)
-
-sub-result : tie.Need-sub-result
-sub-result c = search needs
-
-mul-result : tie.Need-mul-result
-mul-result c = search needs
-
-add-result : tie.Need-add-result
-add-result c = search needs
-
-add-result-2 : tie.Need-add-result-2
-add-result-2 c = search needs
+root-guessed-requires : tie.Need-root-guessed-requires
+root-guessed-requires c κs = moved-lt (c .args .t) _ (c .pre .0) (omega arith)
 
 pattern-is : (t y : ℕ) → rootPattern t y ≡ (y / 2 - 26) * 2 ^ 52 + (rootCut 54 (t * 2 ^ (y % 2) * 4 ^ 27) + 1) / 2
 unfolding rootPattern
@@ -45,20 +30,13 @@ returns : tie.Need-returns
 returns c =
     let t = c .before .args .t in
     let y = c .before .args .y in
-    let r = c .root-digits .ensures in
+    let r = c .root-guessed .ensures in
     let p = bit-power (y % 2) (omega arith) in
-    let e = same-cut t _ (2 ^ (y % 2)) (c .root-digits .result) (r .0) (omega arith) in
+    let e = same-cut t _ (2 ^ (y % 2)) (c .root-guessed .result) (r .0) (omega arith) in
     (omega (arith, pattern-is t y), omega arith)
 
 pub root-pattern-spec : {M : Type 1} → statement M
 root-pattern-spec =
     tie.close
-    (tie.spec
-    add-root-digits
-    mul-root-digits
-    root-digits-requires
-    sub-result
-    mul-result
-    add-result
-    add-result-2
-    returns)
+    (tie.spec (search needs) mul-root-guessed root-guessed-requires (search needs) (search needs) (search needs)
+    (search needs) returns)

@@ -1,4 +1,5 @@
--- `math_sqrt::sqrt` meets its contract: each return is a case of the definition, and the definition's root is the nearest.
+-- `math_sqrt::sqrt` meets its contract: each return is a case of the definition, and the definition's root is the
+-- nearest.
 use Prim.Native.Nat.{_%_, _≤_}
 use mathlib.Core.Path.{_≡_, refl, sym, ap, _∙_, subst}
 use mathlib.Core.Bool.{Bool, true, false, not}
@@ -60,9 +61,6 @@ returns-4 c =
     let x = c .before .before .before .before .args .x in
     itself x (search needs) (root-of-infinite (toBits binary64 x) (omega arith) (omega arith))
 
-root-of-fields-requires : tie.Need-root-of-fields-requires
-root-of-fields-requires c κs = search needs
-
 float-from-bits-result : tie.Need-float-from-bits-result
 float-from-bits-result c =
     let r = c .root-of-fields .result in
@@ -76,4 +74,6 @@ returns-5 c =
     both x _ f (ap (ofBits binary64) (c .root-of-fields .ensures .0) ∙ sym (root-of-positive x f (omega arith) (omega arith)))
 
 pub sqrt-spec : {M : Type 1} → statement M
-sqrt-spec = tie.close (tie.spec returns float-to-bits-b returns-2 returns-3 returns-4 root-of-fields-requires float-from-bits-result returns-5)
+sqrt-spec =
+    tie.close
+    (tie.spec returns float-to-bits-b returns-2 returns-3 returns-4 (search needs) float-from-bits-result returns-5)
