@@ -1,4 +1,6 @@
--- Whether sites are joined, decided by quick-find: each site has a class, and each image merges two.
+-- Whether sites are joined, decided by classes: two sites have one class just if they are joined. They are found by
+-- quick-find: each site has
+-- a class, and each image merges two.
 use Prim.Native.Nat.{ℕ, zero, suc, _+_, _≤_, _<_}
 use mathlib.Core.Path.{_≡_, refl, sym, ap, _∙_, subst}
 use mathlib.Core.Bool.{Bool, true, false}
@@ -12,7 +14,7 @@ use lib.Dec.{eqb}
 use Rattle.definitions.specs.Lists.{upFrom, upTo}
 use Rattle.definitions.specs.Permutation.{image}
 use Rattle.definitions.specs.Orbit.{Step, Joined, none, forth, back}
-use Rattle.definitions.specs.ListLaws.{map-at, length-upFrom, upFrom-at}
+use Rattle.laws.specs.Lists.{map-at, length-upFrom, upFrom-at}
 use Rattle.base_cell.specs.Joined.{joined-step, joined-trans, joined-sym}
 use Rattle.base_cell.specs.Maps.{Maps, AllMap}
 
@@ -51,11 +53,11 @@ SameClass cs i j = getD cs i 0 ≡ getD cs j 0
 
 -- ---- one merge
 
-replaced-is : (a b c : ℕ) → c ≡ a → replaced a b c ≡ b
+pub replaced-is : (a b c : ℕ) → c ≡ a → replaced a b c ≡ b
 unfolding replaced
 replaced-is a b c e = rw (eq-eqb c a e, replaced)
 
-replaced-not : (a b c : ℕ) → eqb c a ≡ false → replaced a b c ≡ c
+pub replaced-not : (a b c : ℕ) → eqb c a ≡ false → replaced a b c ≡ c
 unfolding replaced
 replaced-not a b c e = rw (e, replaced)
 
@@ -68,7 +70,7 @@ replaced-same a b c e = go (eqb c a) refl
     go false q = replaced-not a b c q
 
 -- the class merged into is not changed
-replaced-into : (a b : ℕ) → replaced a b b ≡ b
+pub replaced-into : (a b : ℕ) → replaced a b b ≡ b
 replaced-into a b = go (eqb b a) refl
   where
     go : (t : Bool) → eqb b a ≡ t → replaced a b b ≡ b
@@ -219,6 +221,31 @@ module _ (n : ℕ) where
 
 -- ---- sound: sites of one class are joined
 
+-- f is a class for each site, and sites of one class are joined: so they are when the class of a becomes part of that
+-- of b
+module _ (n : ℕ) (all : List (List ℕ)) (f : ℕ → ℕ) (sound : (i j : ℕ) → i < n → j < n → f i ≡ f j → Joined all i j)
+    (a b : ℕ) (ha : a < n) (hb : b < n) (ab : Joined all a b) where
+  replaced-cases :
+      (i j : ℕ) → i < n → j < n → (t u : Bool) → eqb (f i) (f a) ≡ t → eqb (f j) (f a) ≡ u →
+      replaced (f a) (f b) (f i) ≡ replaced (f a) (f b) (f j) → Joined all i j
+  replaced-cases i j hi hj true true p q e = sound i j hi hj (eqb-true (f i) (f a) p ∙ sym (eqb-true (f j) (f a) q))
+  replaced-cases i j hi hj true false p q e =
+      joined-trans
+      (sound i a hi ha (eqb-true (f i) (f a) p))
+      (joined-trans
+      ab
+      (sound b j hb hj (sym (replaced-is (f a) (f b) (f i) (eqb-true (f i) (f a) p)) ∙ e ∙ replaced-not (f a) (f b) (f j) q)))
+  replaced-cases i j hi hj false true p q e =
+      joined-trans
+      (sound i b hi hb (sym (replaced-not (f a) (f b) (f i) p) ∙ e ∙ replaced-is (f a) (f b) (f j) (eqb-true (f j) (f a) q)))
+      (joined-trans (joined-sym ab) (sound a j ha hj (sym (eqb-true (f j) (f a) q))))
+  replaced-cases i j hi hj false false p q e =
+      sound i j hi hj (sym (replaced-not (f a) (f b) (f i) p) ∙ e ∙ replaced-not (f a) (f b) (f j) q)
+
+  pub replaced-sound :
+      (i j : ℕ) → i < n → j < n → replaced (f a) (f b) (f i) ≡ replaced (f a) (f b) (f j) → Joined all i j
+  replaced-sound i j hi hj = replaced-cases i j hi hj (eqb (f i) (f a)) (eqb (f j) (f a)) refl refl
+
 module _ (n : ℕ) (all : List (List ℕ)) where
   pub record Sound (cs : List ℕ) : Type 0 where
     pub size : length cs ≡ n
@@ -226,44 +253,16 @@ module _ (n : ℕ) (all : List (List ℕ)) where
 
   join-sound : (a b : ℕ) (cs : List ℕ) → a < n → b < n → Joined all a b → Sound cs → Sound (join a b cs)
   unfolding join
-  join-sound a b cs ha hb ab s = record { size = length-join a b cs ∙ s .size; joined = joined }
-    where
-      x : ℕ
-      x = getD cs a 0
-
-      y : ℕ
-      y = getD cs b 0
-
-      -- a site of a's class, and one that is not
-      cases :
-          (i j : ℕ) → i < n → j < n → (t u : Bool) → eqb (getD cs i 0) x ≡ t → eqb (getD cs j 0) x ≡ u →
-          replaced x y (getD cs i 0) ≡ replaced x y (getD cs j 0) → Joined all i j
-      cases i j hi hj true true p q e = s .joined i j hi hj (eqb-true (getD cs i 0) x p ∙ sym (eqb-true (getD cs j 0) x q))
-      cases i j hi hj true false p q e =
-          joined-trans
-          (s .joined i a hi ha (eqb-true (getD cs i 0) x p))
-          (joined-trans
-          ab
-          (s .joined b j hb hj (sym (replaced-is x y (getD cs i 0) (eqb-true (getD cs i 0) x p)) ∙ e ∙ replaced-not x y (getD cs j 0) q)))
-      cases i j hi hj false true p q e =
-          joined-trans
-          (s .joined i b hi hb (sym (replaced-not x y (getD cs i 0) p) ∙ e ∙ replaced-is x y (getD cs j 0) (eqb-true (getD cs j 0) x q)))
-          (joined-trans (joined-sym ab) (s .joined a j ha hj (sym (eqb-true (getD cs j 0) x q))))
-      cases i j hi hj false false p q e =
-          s .joined i j hi hj (sym (replaced-not x y (getD cs i 0) p) ∙ e ∙ replaced-not x y (getD cs j 0) q)
-
-      joined : (i j : ℕ) → i < n → j < n → SameClass (join a b cs) i j → Joined all i j
-      joined i j hi hj e =
-          cases
-          i
-          j
-          hi
-          hj
-          (eqb (getD cs i 0) x)
-          (eqb (getD cs j 0) x)
-          refl
-          refl
-          (sym (merge-at x y cs i (omega (arith, s .size))) ∙ e ∙ merge-at x y cs j (omega (arith, s .size)))
+  join-sound a b cs ha hb ab s =
+      record {
+        size = length-join a b cs ∙ s .size;
+        joined =
+            λ i j hi hj e.
+            replaced-sound n all (λ k. getD cs k 0) (s .joined) a b ha hb ab i j hi hj
+            (sym (merge-at (getD cs a 0) (getD cs b 0) cs i (omega (arith, s .size)))
+            ∙ e
+            ∙ merge-at (getD cs a 0) (getD cs b 0) cs j (omega (arith, s .size)));
+      }
 
   along-sound :
       (i : ℕ) (p cs : List ℕ) → i + length p ≤ n → ((k : ℕ) → k < length p → getD p k 0 < n) →
@@ -318,8 +317,9 @@ pub classes-sound : (n : ℕ) (ps : List (List ℕ)) → AllMap n ps → Sound n
 unfolding classes
 classes-sound n ps maps = alongAll-sound n ps ps (upTo n) (λ p m. m) maps (start-sound n ps)
 
--- two sites have one class just if they are joined
-pub classes-right :
-    (n : ℕ) (ps : List (List ℕ)) → AllMap n ps → (i j : ℕ) → i < n → j < n →
-    (getD (classes n ps) i 0 ≡ getD (classes n ps) j 0) ↔ Joined ps i j
+-- the classes cs of n sites: two of them have one class just if they are joined
+abbrev pub Decides : ℕ → List (List ℕ) → List ℕ → Type 0
+Decides n ps cs = (i j : ℕ) → i < n → j < n → SameClass cs i j ↔ Joined ps i j
+
+pub classes-right : (n : ℕ) (ps : List (List ℕ)) → AllMap n ps → Decides n ps (classes n ps)
 classes-right n ps maps i j hi hj = (classes-sound n ps maps .joined i j hi hj, joined-class n ps maps)

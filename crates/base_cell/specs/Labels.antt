@@ -14,10 +14,10 @@ use Rattle.definitions.specs.Lists.{all, those, upTo}
 use Rattle.definitions.specs.Permutation.{isPermutation}
 use Rattle.definitions.specs.Orbit.{Joined, none, primitiveOf, IsLabel, Labels, orbit, orbits, multiplicities}
 use Rattle.definitions.specs.Demand.{JoinTheSame}
-use Rattle.definitions.specs.ListLaws.{map-at, all-at, those-upTo}
+use Rattle.laws.specs.Lists.{map-at, all-at, those-upTo}
 use Rattle.base_cell.specs.Joined.{joined-trans, joined-sym}
 use Rattle.base_cell.specs.Maps.{AllMap, permutations-all, permutations-map}
-use Rattle.base_cell.specs.Classes.{classes, classes-right}
+use Rattle.base_cell.specs.Classes.{Decides, classes, classes-right}
 
 -- ---- computed
 
@@ -31,16 +31,20 @@ unfoldable pub places : List ℕ → List ℕ
 unfolding place
 places ds = map (λ c. place c ds) ds
 
+-- the class of each listed site
+abbrev pub classesOf : List ℕ → List ℕ → List ℕ
+classesOf cs mapping = map (λ s. getD cs s 0) mapping
+
 -- for each listed site the first listed site whose primitive site has the same class
 unfoldable pub labelsBy : List ℕ → List ℕ → List ℕ
 unfolding places
-labelsBy cs mapping = places (map (λ s. getD cs s 0) mapping)
+labelsBy cs mapping = places (classesOf cs mapping)
 
 -- l is the place of the first c
-record First (c : ℕ) (ds : List ℕ) (l : ℕ) : Type 0 where
-  below : l < length ds
-  at : getD ds l 0 ≡ c
-  least : (k : ℕ) → k < l → getD ds k 0 ≡ c → ⊥
+pub record First (c : ℕ) (ds : List ℕ) (l : ℕ) : Type 0 where
+  pub below : l < length ds
+  pub at : getD ds l 0 ≡ c
+  pub least : (k : ℕ) → k < l → getD ds k 0 ≡ c → ⊥
 
 place-here : (c d : ℕ) (ds : List ℕ) → eqb d c ≡ true → First c (d ∷ ds) (place c (d ∷ ds))
 unfolding place
@@ -65,20 +69,42 @@ place-first c (d ∷ ds) k h e = go (eqb d c) refl k h e (λ k h e. place-first 
     go false q zero h e rest = absurd (eqb-false d c q e)
     go false q (suc k) h e rest = place-later c d ds q (rest k (le-of-suc-le-suc h) e)
 
-pub labels-right :
-    (n : ℕ) (ps : List (List ℕ)) → AllMap n ps → (mapping : List ℕ) → ((k : ℕ) → k < length mapping → primitiveOf mapping k < n) →
-    Labels ps mapping (labelsBy (classes n ps) mapping)
+pub first-place : (c : ℕ) (ds : List ℕ) (l : ℕ) → First c ds l → l ≡ place c ds
+first-place c ds l f =
+    let g = place-first c ds l (f .below) (f .at) in
+    let a : l < place c ds → ⊥ = λ h. g .least l h (f .at) in
+    let b : place c ds < l → ⊥ = λ h. f .least (place c ds) h (g .at) in
+    omega arith
+
+module _ (cs mapping : List ℕ) where
+  pub length-labelsBy : length (labelsBy cs mapping) ≡ length mapping
+  unfolding labelsBy places
+  length-labelsBy = length-map (classesOf cs mapping) (λ c. place c (classesOf cs mapping)) ∙ length-map mapping (λ s. getD cs s 0)
+
+  -- the first place of j's class is its label
+  pub labelsBy-at :
+      (j l : ℕ) → j < length mapping → First (getD (classesOf cs mapping) j 0) (classesOf cs mapping) l → l ≡ getD (labelsBy cs mapping) j 0
+  unfolding labelsBy places
+  labelsBy-at j l h f =
+      let ds = classesOf cs mapping in
+      first-place (getD ds j 0) ds l f
+      ∙ sym (map-at (λ c. place c ds) ds j 0 0 (omega (arith, length-map mapping (λ s. getD cs s 0))))
+
+-- classes that decide what is joined give the labels
+pub labels-by :
+    (n : ℕ) (ps : List (List ℕ)) (cs : List ℕ) → Decides n ps cs → (mapping : List ℕ) →
+    ((k : ℕ) → k < length mapping → primitiveOf mapping k < n) → Labels ps mapping (labelsBy cs mapping)
 unfolding labelsBy places
-labels-right n ps maps mapping inside = record { each = length-map ds (λ c. place c ds) ∙ long; label = label }
+labels-by n ps cs decides mapping inside = record { each = length-map ds (λ c. place c ds) ∙ long; label = label }
   where
     ds : List ℕ
-    ds = map (λ s. getD (classes n ps) s 0) mapping
+    ds = classesOf cs mapping
 
     long : length ds ≡ length mapping
-    long = length-map mapping (λ s. getD (classes n ps) s 0)
+    long = length-map mapping (λ s. getD cs s 0)
 
-    class : (k : ℕ) → k < length mapping → getD ds k 0 ≡ getD (classes n ps) (primitiveOf mapping k) 0
-    class k h = map-at (λ s. getD (classes n ps) s 0) mapping k 0 0 h
+    class : (k : ℕ) → k < length mapping → getD ds k 0 ≡ getD cs (primitiveOf mapping k) 0
+    class k h = map-at (λ s. getD cs s 0) mapping k 0 0 h
 
     -- the first place of j's class
     is-label : (j l : ℕ) → j < length mapping → First (getD ds j 0) ds l → IsLabel ps mapping j l
@@ -89,7 +115,7 @@ labels-right n ps maps mapping inside = record { each = length-map ds (λ c. pla
 
         joined : Joined ps (primitiveOf mapping l) (primitiveOf mapping j)
         joined =
-            classes-right n ps maps (primitiveOf mapping l) (primitiveOf mapping j) (inside l listed) (inside j h) .0
+            decides (primitiveOf mapping l) (primitiveOf mapping j) (inside l listed) (inside j h) .0
             (sym (class l listed) ∙ f .at ∙ class j h)
 
         least : (k : ℕ) → k < l → Joined ps (primitiveOf mapping k) (primitiveOf mapping j) → ⊥
@@ -97,7 +123,7 @@ labels-right n ps maps mapping inside = record { each = length-map ds (λ c. pla
             let hk : k < length mapping = omega (arith, listed) in
             f .least k kl
             (class k hk
-            ∙ classes-right n ps maps (primitiveOf mapping k) (primitiveOf mapping j) (inside k hk) (inside j h) .1 r
+            ∙ decides (primitiveOf mapping k) (primitiveOf mapping j) (inside k hk) (inside j h) .1 r
             ∙ sym (class j h))
 
     label : (j : ℕ) → j < length mapping → IsLabel ps mapping j (getD (map (λ c. place c ds) ds) j 0)
@@ -107,6 +133,11 @@ labels-right n ps maps mapping inside = record { each = length-map ds (λ c. pla
         (IsLabel ps mapping j)
         (sym (map-at (λ c. place c ds) ds j 0 0 hj))
         (is-label j (place (getD ds j 0) ds) h (place-first (getD ds j 0) ds j hj refl))
+
+pub labels-right :
+    (n : ℕ) (ps : List (List ℕ)) → AllMap n ps → (mapping : List ℕ) → ((k : ℕ) → k < length mapping → primitiveOf mapping k < n) →
+    Labels ps mapping (labelsBy (classes n ps) mapping)
+labels-right n ps maps = labels-by n ps (classes n ps) (classes-right n ps maps)
 
 -- the same where the two conditions are computed
 pub labels-computed :

@@ -2,5 +2,8 @@
 pub mod Joined
 pub mod Maps
 pub mod Classes
+pub mod Trees
 pub mod Labels
+pub mod Grouping
 pub mod Rearranged
+pub mod Labelling

@@ -8,7 +8,8 @@ use lib.ListN.{length}
 use lib.Dec.{T, ltb, eqb, eqb→eq, ltb→lt}
 use Rattle.definitions.specs.Lists.{all, count}
 use Rattle.definitions.specs.Permutation.{image, isPermutation}
-use Rattle.definitions.specs.ListLaws.{and-left, and-right, all-mem, all-at}
+use Rattle.laws.specs.Lists.{all-mem, all-at}
+use Rattle.laws.specs.Tests.{and-left, and-right}
 
 -- an image below n for each of n sites
 pub record Maps (n : ℕ) (p : List ℕ) : Type 0 where

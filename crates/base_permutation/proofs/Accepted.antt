@@ -6,11 +6,12 @@ use mathlib.Core.List.{List}
 use lib.ListN.{length}
 use borrow.Author.Tests.{ltb-false, eqb-true, not-false}
 use Rattle.definitions.specs.declared.Verdict.the-variants.{Accepted}
-use Rattle.definitions.specs.Calls.{identityConditions, inverseConditions, productConditions, tooManySites, badPermutation}
+use Rattle.definitions.specs.Calls.{identityConditions, inverseConditions, productConditions, badPermutation}
 use Rattle.definitions.specs.Permutation.{isPermutation}
 use Rattle.definitions.specs.Refusal.{Checked}
-use Rattle.definitions.specs.Checked.{numbered, FailAll, past}
-use Rattle.base_permutation.specs.Tests.{off, neither-left, neither-right}
+use Rattle.definitions.specs.Limits.{tooManySites}
+use Rattle.laws.specs.Order.{numbered, FailAll, past}
+use Rattle.laws.specs.Tests.{off, neither-left, neither-right}
 
 pub identity-facts : (n room : ℕ) → Checked (identityConditions n room) Accepted → (n ≤ 256) × (n ≤ room)
 unfolding numbered FailAll

@@ -1,5 +1,6 @@
--- Laws of the loops: stores into a lent list, the table of the images met, the inverse placed entry by entry.
+-- Laws of the loops: stores into a lent list, the table of the images met, the inverse placed entry by entry, the parts
+-- of a list tested in turn.
 pub mod Accepted
-pub mod Filling
 pub mod MetTable
+pub mod Parts
 pub mod Placing

@@ -1,4 +1,5 @@
--- The scan of `is_permutation`: a table of 256 cells says how often each image was met among the first i entries of p, at most once.
+-- The scan of `is_permutation`: a table of 256 cells says how often each image was met among the first i entries of p,
+-- at most once.
 use Prim.Native.Nat.{ℕ, _+_, _≤_, _<_}
 use mathlib.Core.Path.{_≡_, refl, sym, ap, _∙_}
 use mathlib.Core.Bool.{Bool, true, false}
@@ -10,9 +11,9 @@ use lib.Seq.{getD-set-same, getD-set-other, take-length}
 use borrow.Author.Tests.{eq-eqb, eqb-true, eqb-false}
 use Rattle.definitions.specs.Lists.{count}
 use Rattle.definitions.specs.Permutation.{image, isPermutation}
-use Rattle.base_permutation.specs.Counting.{bit, count-more, count-from}
 use Rattle.base_permutation.specs.Bijection.{bijection, counted, passes}
-use Rattle.base_permutation.proofs.Filling.{zeros}
+use Rattle.laws.specs.Counting.{bit, count-more, count-from}
+use Rattle.laws.specs.Filling.{zeros}
 
 abbrev pub Met : List ℕ → ℕ → List ℕ → Type 0
 Met p i met = (x : ℕ) → x < 256 → (count (eqb x) (take i p) ≡ getD met x 0) × (getD met x 0 ≤ 1)

@@ -8,8 +8,8 @@ use lib.Seq.{getD-set-same, getD-set-other, getD-take, length-take-le, ext-getD}
 use borrow.Author.Count.{below-more}
 use Rattle.definitions.specs.Lists.{upTo}
 use Rattle.definitions.specs.Permutation.{image, inverseImage}
-use Rattle.base_permutation.specs.Counting.{length-upTo}
 use Rattle.base_permutation.specs.Bijection.{Bijection, inverse-below, image-inverse, image-sites}
+use Rattle.laws.specs.Counting.{length-upTo}
 
 abbrev pub Placed : List ℕ → ℕ → List ℕ → Type 0
 Placed p i out = (j : ℕ) → j < i → getD out (image p j) 0 ≡ j

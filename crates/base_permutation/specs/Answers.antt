@@ -7,13 +7,6 @@ use lib.Seq.{take-append-seam}
 use Rattle.definitions.specs.Refusal.{Condition, Outcome, accepted, refused, Returns, outcomeOf, Checked, Filled}
 use Rattle.definitions.specs.declared.Verdict.{Verdict}
 use Rattle.definitions.specs.declared.Verdict.the-variants.{Accepted, Refused}
-use Rattle.base_permutation.specs.declared.Image.{Image}
-use Rattle.base_permutation.specs.declared.Image.the-variants as image
-
--- `Image`, case by case
-abbrev pub imageOutcome : Image → Outcome ℕ
-imageOutcome (image.Site i) = accepted (i .0)
-imageOutcome (image.Refused k) = refused k
 
 -- A call that fills a lent list returns its answer in the list's first cells.
 pub filled-returns : {A : Type 0} (zero : A) (cs : List Condition) (answer entry exit : List A) (v : Verdict)

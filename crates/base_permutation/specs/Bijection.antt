@@ -1,4 +1,5 @@
--- A permutation of n sites is a bijection: `inverseImage` is its inverse on both sides, and the identity, inverses and products are permutations.
+-- A permutation of n sites is a bijection: `inverseImage` is its inverse on both sides, and the identity, inverses and
+-- products are permutations.
 use Prim.Native.Nat.{ℕ, zero, suc, _+_, _≤_, _<_}
 use mathlib.Core.Path.{_≡_, refl, sym, ap, _∙_, subst}
 use mathlib.Core.Bool.{Bool, true, false, _&&_}
@@ -12,7 +13,8 @@ use lib.Seq.{getD-take, length-take-le}
 use borrow.Author.Tests.{lt-ltb, ltb-true, eq-eqb, eqb-true, ne-eqb}
 use Rattle.definitions.specs.Lists.{count, upTo}
 use Rattle.definitions.specs.Permutation.{image, isPermutation, inverseImage, after}
-use Rattle.base_permutation.specs.Counting.{bit, never, all-of, all-at, count-cons, count-from, count-once, count-place, first-found, length-upTo, getD-upTo}
+use Rattle.laws.specs.Counting.{bit, all-of, all-at, count-cons, count-from, count-once, count-place, first-found, length-upTo, getD-upTo}
+use Rattle.laws.specs.Tests.{never}
 
 -- ---- the test and what it says
 

@@ -4,36 +4,23 @@ ghost use Prim.Native.Nat.{ℕ, _≤_};
 ghost use mathlib.Core.Path.{_≡_};
 ghost use mathlib.Core.Bool.{true};
 ghost use mathlib.Core.List.{List, _++_, map};
-ghost use lib.ListN.{length, take, drop};
-ghost use Rattle.definitions.specs.Lists.{upTo};
-ghost use Rattle.definitions.specs.Refusal.{Returns, Checked, Filled, padded};
-ghost use Rattle.definitions.specs.Calls.{identityConditions, imageConditions, inverseConditions, productConditions};
-ghost use Rattle.definitions.specs.Permutation.{image, isPermutation, inverseImage, after};
-ghost use Rattle.base_permutation.specs.Answers.{imageOutcome};
+ghost use lib.ListN.{length, drop};
+ghost use Rattle.definitions.specs.Lists.{all, upTo};
+ghost use Rattle.definitions.specs.Refusal.{Checked};
+ghost use Rattle.definitions.specs.Calls.{identityConditions, inverseConditions, productConditions};
+ghost use Rattle.definitions.specs.Calls.{IdentityPromise, ImagePromise, InversePromise, ProductPromise};
+ghost use Rattle.definitions.specs.Permutation.{isPermutation, permutationAt, inverseImage, after};
+use definitions::Image;
 use definitions::PrimSite;
 use definitions::Verdict;
-
-// What `apply` answers: the image, or a refusal's number.
-pub enum Image {
-    Site(PrimSite),
-    Refused(usize),
-}
+use definitions::limits::MOST_SITES;
+use definitions::refusal;
+use lent::clear_u8;
 
 fn wide(x: u8) -> usize
     ensures { λ r. ⌜ r ≡ x ⌝ }
 {
     x as usize
-}
-
-// Zero from the place n on.
-pub fn clear_from(out: &mut [u8], n: usize)
-    ensures { λ _. ⌜ now (out .exit) ≡ padded 0 (take n (now (out .entry))) (length (now (out .entry))) ⌝ }
-{
-    let mut i = n;
-    while i < out.len() {
-        out[i] = 0;
-        i += 1;
-    }
 }
 
 // Whether p lists each of its own places once: a table says which images were met.
@@ -56,16 +43,39 @@ pub fn is_permutation(p: &[u8]) -> bool
     true
 }
 
+// Whether k permutations of n sites stand one behind the other at the front of the list: one that is cut short is none.
+pub fn all_permutations(images: &[u8], n: usize, k: usize) -> bool
+    ensures { λ r. ⌜ r ≡ all (λ o. isPermutation n (permutationAt n (now (images .entry)) o)) (upTo k) ⌝ }
+{
+    if n == 0 {
+        return true;
+    }
+    let mut at: usize = 0;
+    let mut o: usize = 0;
+    while o < k {
+        if images.len() - at < n {
+            return false;
+        }
+        let end = at + n;
+        if !is_permutation(&images[at..end]) {
+            return false;
+        }
+        at = end;
+        o += 1;
+    }
+    true
+}
+
 // ---- the verdict of each call
 
 fn identity_verdict(n: usize, room: usize) -> Verdict
     ensures { λ r. ⌜ Checked (identityConditions n room) r ⌝ }
 {
-    if 256 < n {
-        return Verdict::Refused(2);
+    if MOST_SITES < n {
+        return Verdict::Refused(refusal::COUNTS);
     }
     if room < n {
-        return Verdict::Refused(10);
+        return Verdict::Refused(refusal::BUFFER);
     }
     Verdict::Accepted
 }
@@ -73,14 +83,14 @@ fn identity_verdict(n: usize, room: usize) -> Verdict
 fn inverse_verdict(p: &[u8], room: usize) -> Verdict
     ensures { λ r. ⌜ Checked (inverseConditions (now (p .entry)) room) r ⌝ }
 {
-    if 256 < p.len() {
-        return Verdict::Refused(2);
+    if MOST_SITES < p.len() {
+        return Verdict::Refused(refusal::COUNTS);
     }
     if !is_permutation(p) {
-        return Verdict::Refused(5);
+        return Verdict::Refused(refusal::SITE_IMAGE);
     }
     if room < p.len() {
-        return Verdict::Refused(10);
+        return Verdict::Refused(refusal::BUFFER);
     }
     Verdict::Accepted
 }
@@ -88,20 +98,20 @@ fn inverse_verdict(p: &[u8], room: usize) -> Verdict
 fn product_verdict(p: &[u8], q: &[u8], room: usize) -> Verdict
     ensures { λ r. ⌜ Checked (productConditions (now (p .entry)) (now (q .entry)) room) r ⌝ }
 {
-    if 256 < p.len() {
-        return Verdict::Refused(2);
+    if MOST_SITES < p.len() {
+        return Verdict::Refused(refusal::COUNTS);
     }
     if q.len() != p.len() {
-        return Verdict::Refused(2);
+        return Verdict::Refused(refusal::COUNTS);
     }
     if !is_permutation(p) {
-        return Verdict::Refused(5);
+        return Verdict::Refused(refusal::SITE_IMAGE);
     }
     if !is_permutation(q) {
-        return Verdict::Refused(5);
+        return Verdict::Refused(refusal::SITE_IMAGE);
     }
     if room < p.len() {
-        return Verdict::Refused(10);
+        return Verdict::Refused(refusal::BUFFER);
     }
     Verdict::Accepted
 }
@@ -120,8 +130,10 @@ fn put_identity(n: usize, out: &mut [u8])
 }
 
 fn put_inverse(p: &[u8], out: &mut [u8])
-    requires { ⌜ (length (now p) ≤ 256) × (isPermutation (length (now p)) (now p) ≡ true) × (length (now p) ≤ length (now out)) ⌝ }
-    ensures { λ _. ⌜ now (out .exit) ≡ map (inverseImage (now (p .entry))) (upTo (length (now (p .entry)))) ++ drop (length (now (p .entry))) (now (out .entry)) ⌝ }
+    requires { ⌜ (length (now p) ≤ 256) × (isPermutation (length (now p)) (now p) ≡ true) ×
+        (length (now p) ≤ length (now out)) ⌝ }
+    ensures { λ _. ⌜ now (out .exit) ≡ map (inverseImage (now (p .entry))) (upTo (length (now (p .entry)))) ++
+        drop (length (now (p .entry))) (now (out .entry)) ⌝ }
 {
     let mut i: usize = 0;
     while i < p.len() {
@@ -132,8 +144,10 @@ fn put_inverse(p: &[u8], out: &mut [u8])
 }
 
 fn put_product(p: &[u8], q: &[u8], out: &mut [u8])
-    requires { ⌜ (length (now q) ≡ length (now p)) × (isPermutation (length (now p)) (now p) ≡ true) × (isPermutation (length (now q)) (now q) ≡ true) × (length (now q) ≤ length (now out)) ⌝ }
-    ensures { λ _. ⌜ now (out .exit) ≡ after (now (p .entry)) (now (q .entry)) ++ drop (length (now (q .entry))) (now (out .entry)) ⌝ }
+    requires { ⌜ (length (now q) ≡ length (now p)) × (isPermutation (length (now p)) (now p) ≡ true) ×
+        (isPermutation (length (now q)) (now q) ≡ true) × (length (now q) ≤ length (now out)) ⌝ }
+    ensures { λ _. ⌜ now (out .exit) ≡
+        after (now (p .entry)) (now (q .entry)) ++ drop (length (now (q .entry))) (now (out .entry)) ⌝ }
 {
     let mut i: usize = 0;
     while i < q.len() {
@@ -147,16 +161,16 @@ fn put_product(p: &[u8], q: &[u8], out: &mut [u8])
 
 // The identity of n sites.
 pub fn identity(n: usize, out: &mut [u8]) -> Verdict
-    ensures { λ r. ⌜ Filled 0 (identityConditions n (length (now (out .entry)))) (upTo n) (now (out .entry)) (now (out .exit)) r ⌝ }
+    ensures { λ r. ⌜ IdentityPromise n (now (out .entry)) (now (out .exit)) r ⌝ }
 {
     let v = identity_verdict(n, out.len());
     match v {
         Verdict::Accepted => {
             put_identity(n, out);
-            clear_from(out, n);
+            clear_u8(out, n);
         }
         Verdict::Refused(_) => {
-            clear_from(out, 0);
+            clear_u8(out, 0);
         }
     }
     v
@@ -164,33 +178,33 @@ pub fn identity(n: usize, out: &mut [u8]) -> Verdict
 
 // The image of the site i.
 pub fn apply(p: &[u8], i: PrimSite) -> Image
-    ensures { λ r. ⌜ Returns (imageConditions (now (p .entry)) (i .0)) (λ (a : ℕ). a ≡ image (now (p .entry)) (i .0)) (imageOutcome r) ⌝ }
+    ensures { λ r. ⌜ ImagePromise (now (p .entry)) (i .0) r ⌝ }
 {
-    if 256 < p.len() {
-        return Image::Refused(2);
+    if MOST_SITES < p.len() {
+        return Image::Refused(refusal::COUNTS);
     }
     if !is_permutation(p) {
-        return Image::Refused(5);
+        return Image::Refused(refusal::SITE_IMAGE);
     }
     let at = i.0;
     if p.len() <= at {
-        return Image::Refused(5);
+        return Image::Refused(refusal::SITE_IMAGE);
     }
     Image::Site(PrimSite(wide(p[at])))
 }
 
 // The inverse of p.
 pub fn inverse(p: &[u8], out: &mut [u8]) -> Verdict
-    ensures { λ r. ⌜ Filled 0 (inverseConditions (now (p .entry)) (length (now (out .entry)))) (map (inverseImage (now (p .entry))) (upTo (length (now (p .entry))))) (now (out .entry)) (now (out .exit)) r ⌝ }
+    ensures { λ r. ⌜ InversePromise (now (p .entry)) (now (out .entry)) (now (out .exit)) r ⌝ }
 {
     let v = inverse_verdict(p, out.len());
     match v {
         Verdict::Accepted => {
             put_inverse(p, out);
-            clear_from(out, p.len());
+            clear_u8(out, p.len());
         }
         Verdict::Refused(_) => {
-            clear_from(out, 0);
+            clear_u8(out, 0);
         }
     }
     v
@@ -198,16 +212,16 @@ pub fn inverse(p: &[u8], out: &mut [u8]) -> Verdict
 
 // p after q.
 pub fn product(p: &[u8], q: &[u8], out: &mut [u8]) -> Verdict
-    ensures { λ r. ⌜ Filled 0 (productConditions (now (p .entry)) (now (q .entry)) (length (now (out .entry)))) (after (now (p .entry)) (now (q .entry))) (now (out .entry)) (now (out .exit)) r ⌝ }
+    ensures { λ r. ⌜ ProductPromise (now (p .entry)) (now (q .entry)) (now (out .entry)) (now (out .exit)) r ⌝ }
 {
     let v = product_verdict(p, q, out.len());
     match v {
         Verdict::Accepted => {
             put_product(p, q, out);
-            clear_from(out, q.len());
+            clear_u8(out, q.len());
         }
         Verdict::Refused(_) => {
-            clear_from(out, 0);
+            clear_u8(out, 0);
         }
     }
     v

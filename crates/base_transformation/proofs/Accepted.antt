@@ -1,21 +1,28 @@
 -- What the diagonalisation says of its matrix, and what is known once the points are not refused.
 use Prim.Native.Nat.{ℕ}
-use mathlib.Core.Path.{_≡_, subst}
+use mathlib.Core.Path.{_≡_, refl, sym, ap, subst, _∙_}
 use mathlib.Core.Bool.{Bool, true, false, not}
+use mathlib.Core.List.{List}
 use mathlib.Core.Logic.{_⊎_, ⊎-elim}
 use native.Mathlib.Omega.{arith}
-use lib.Dec.{T, eqb, lit<}
+use lib.Dec.{T, eqb, ltb}
+use Rattle.definitions.specs.declared.Verdict.{Verdict}
 use Rattle.definitions.specs.declared.Verdict.the-variants.{Accepted, Refused}
+use Rattle.definitions.specs.Lists.{any}
 use Rattle.definitions.specs.Matrix.{Matrix}
-use Rattle.definitions.specs.Refusal.{Applies, Returns, Checked}
-use Rattle.definitions.specs.Checked.{numbered, FailAll, past}
-use Rattle.definitions.specs.Snf.{State, Run, Leaves}
-use Rattle.definitions.specs.Standardize.{inRange}
-use Rattle.definitions.specs.Calls.{snfConditions, pointsConditions}
+use Rattle.definitions.specs.Refusal.{_when_, buffer, upto, precedence, Applies, Returns, Checked}
+use Rattle.definitions.specs.Snf.{State, Run, Leaves, diagonal}
+use Rattle.definitions.specs.Calls.{snfConditions, pointsConditions, centringConditions, FactorsPromise}
+use Rattle.definitions.specs.Lent.{zeroPoint}
+use Rattle.definitions.specs.Limits.{inRange, copies, most-copies, shorterThan}
 use Rattle.math_matrix.specs.Laws.{Three}
-use Rattle.math_snf_laws.specs.Runs.{left-unit, not-negative, product}
+use Rattle.math_snf_laws.specs.Runs.{product}
 use Rattle.base_transformation.specs.Answers.{Ended, Ready}
 use Rattle.base_transformation.specs.Lent.{points-facts}
+use Rattle.laws.specs.Order.{numbered, FailAll, past, FailBefore, past-before, checked-without}
+use Rattle.laws.specs.Tests.{so, true-of, or-right}
+use Rattle.laws.specs.Verdicts.{promise-accepted, promise-refused}
+use lib.IntN.{ℤ}
 
 -- ---- the verdict of `snf`
 
@@ -35,19 +42,36 @@ snf-refuses c e k r = by (eqb 3 k) (eqb 8 k) (subst (λ (b : Bool). T (not b)) e
 
 -- ---- the verdict on the points
 
-module _ (c : Matrix) (room : ℕ) (e : Checked (pointsConditions c room) Accepted) where
-  ready-run : Three c → (r : Run c) → Ready (r .third .d) (r .third .l) room
-  ready-run h r =
-      let (x, y, z) = points-facts c room e in
-      record {
-        unit = left-unit r h;
-        first = not-negative r 0 (lit< tt);
-        second = not-negative r 1 (lit< tt);
-        third = not-negative r 2 (lit< tt);
-        some = omega (arith, product r h);
-        few = omega (arith, product r h);
-        fits = omega (arith, product r h);
-      }
+module _ (c : Matrix) (room : ℕ) (accepted : Checked (pointsConditions c room) Accepted) where
+  pub ready : Three c → (d l : Matrix) → Ended c d l → Ready d room
+  ready h d l e = subst (λ (t : State). Ready (t .d) room) (e .1 .1) run
+    where
+      run : Ready (e .1 .0 .third .d) room
+      run =
+          let (x, y, z) = points-facts c room accepted in
+          let n = product (e .1 .0) h in
+          record { some = omega arith; few = omega arith; fits = omega arith }
 
-  pub ready : Three c → (d l : Matrix) → Ended c d l → Ready d l room
-  ready h d l e = subst (λ (t : State). Ready (t .d) (t .l) room) (e .1 .1) (ready-run h (e .1 .0))
+-- ---- the invariant factors
+
+-- past 7 there are not more copies than the most, so that 10 does not apply
+pub centring-checked : (c : Matrix) (v : Verdict) → Checked (pointsConditions c most-copies) v → Checked (centringConditions c) v
+unfolding FailBefore any upto precedence
+centring-checked c v =
+    checked-without (centringConditions c) (buffer when T (shorterThan (copies c) most-copies)) v
+    (λ past h. past-before buffer (pointsConditions c most-copies) past .1 .0 tt (so (or-right (eqb (copies c) 0) (true-of (ltb most-copies (copies c)) h))))
+
+pub factors-accepted :
+    (c d l : Matrix) (out : List ℤ) → Checked (pointsConditions c most-copies) Accepted → Ended c d l → out ≡ diagonal d →
+    FactorsPromise c out Accepted
+factors-accepted c d l out e ended f =
+    promise-accepted (centringConditions c) (λ fs. (r : Run c) × (fs ≡ diagonal (r .third .d))) (λ fs. out ≡ fs) (out ≡ zeroPoint) out
+    (centring-checked c Accepted e)
+    (ended .1 .0, f ∙ ap (λ (t : State). diagonal (t .d)) (sym (ended .1 .1)))
+    refl
+
+pub factors-refused :
+    (c : Matrix) (k : ℕ) (out : List ℤ) → Checked (pointsConditions c most-copies) (Refused k) → out ≡ zeroPoint → FactorsPromise c out (Refused k)
+factors-refused c k out e z =
+    promise-refused (centringConditions c) (λ fs. (r : Run c) × (fs ≡ diagonal (r .third .d))) (λ fs. out ≡ fs) (out ≡ zeroPoint) k
+    (centring-checked c (Refused k) e) z

@@ -9,10 +9,12 @@ use Rattle.definitions.specs.declared.Verdict.the-variants.{Accepted}
 use Rattle.definitions.specs.Refusal.{padded}
 use Rattle.definitions.specs.Matrix.{Matrix, at, apply, inverse}
 use Rattle.definitions.specs.Snf.{State, box, points}
-use Rattle.base_permutation.proofs.Filling.{cut, padded-by}
-use Rattle.definitions.specs.ListLaws.{map-at}
+use Rattle.laws.specs.Lists.{map-at}
 use Rattle.base_transformation.specs.Box.{length-box, box-at, positive}
-use Rattle.base_transformation.specs.Answers.{zeroPoint, pointsOf, Ended, PointsLent, Ready}
+use Rattle.definitions.specs.Lent.{zeroPoint}
+use Rattle.definitions.specs.Calls.{PointsLent}
+use Rattle.base_transformation.specs.Answers.{pointsOf, Ended, Ready}
+use Rattle.laws.specs.Filling.{cut, padded-by}
 
 module _ (m : Matrix) (a b c : ℕ) where
   pub box-points : length (map (apply m) (box a b c)) ≡ a * b * c
@@ -48,13 +50,13 @@ pub points-lent : (c d l : Matrix) (entry exit : List (List ℤ)) → Ended c d 
 points-lent c d l entry exit e f =
     (e .1 .0, f ∙ ap (λ (ps : List (List ℤ)). padded zeroPoint ps (length entry)) (sym (ap points (e .1 .1) ∙ points-of (record { d = d; l = l; r = e .0 }))))
 
-module _ (d l : Matrix) (a b c : ℕ) (x : a ≡ natAbs (at d 0 0)) (y : b ≡ natAbs (at d 1 1)) (z : c ≡ natAbs (at d 2 2)) where
-  pub listed-facts : (room : ℕ) → Ready d l room → (0 < a * b * c) × (a * b * c ≤ 64) × (a * b * c ≤ room)
-  listed-facts room r = rw (x, y, z) (r .some, r .few, r .fits)
+module _ (d l : Matrix) (a b c : ℕ) (x : a ≡ natAbs (at d 0 0)) (y : b ≡ natAbs (at d 1 1)) (z : c ≡ natAbs (at d 2 2)) (entry : List (List ℤ)) (ready : Ready d (length entry)) where
+  pub listed-facts : (0 < a * b * c) × (a * b * c ≤ 64) × (a * b * c ≤ length entry)
+  listed-facts = rw (x, y, z) (ready .some, ready .few, ready .fits)
 
-  pub listed : (m : Matrix) (n : ℕ) (entry mid exit : List (List ℤ)) → m ≡ inverse l → n ≡ a * b * c → a * b * c ≤ length entry
+  pub listed : (m : Matrix) (n : ℕ) (mid exit : List (List ℤ)) → m ≡ inverse l → n ≡ a * b * c
       → mid ≡ map (apply m) (box a b c) ++ drop (a * b * c) entry → exit ≡ cut zeroPoint n mid → exit ≡ padded zeroPoint (pointsOf d l) (length entry)
   unfolding points
-  listed m n entry mid exit g e room p q =
-      padded-by zeroPoint (map (apply m) (box a b c)) entry exit mid (a * b * c) (box-points m a b c) room p (q ∙ ap (λ (k : ℕ). cut zeroPoint k mid) e)
+  listed m n mid exit g e p q =
+      padded-by zeroPoint (map (apply m) (box a b c)) entry exit mid (a * b * c) (box-points m a b c) (listed-facts .2) p (q ∙ ap (λ (k : ℕ). cut zeroPoint k mid) e)
       ∙ ap (λ (ps : List (List ℤ)). padded zeroPoint ps (length entry)) (λ i. map (apply (g i)) (box (x i) (y i) (z i)))

@@ -8,7 +8,7 @@ use lib.ListN.{getD, length, length-map}
 use lib.IntN.{ℤ, pos}
 use Rattle.definitions.specs.Lists.{each, upTo}
 use Rattle.definitions.specs.Snf.{box}
-use Rattle.definitions.specs.ListLaws.{length-upFrom, upTo-at, below-upTo, map-at, length-each, each-at, place-below}
+use Rattle.laws.specs.Lists.{length-upFrom, upTo-at, below-upTo, map-at, length-each, each-at, place-below}
 
 -- the place of (i, j, k) in the box of a, b, c
 abbrev pub placeOf : ℕ → ℕ → ℕ → ℕ → ℕ → ℕ

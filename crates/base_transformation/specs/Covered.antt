@@ -1,4 +1,5 @@
--- Every run of the diagonalisation of a C with a determinant has what `Smith` asks, so its points cover every translation once.
+-- Every run of the diagonalisation of a C with a determinant has what `Smith` asks, so its points cover every
+-- translation once.
 use Prim.Native.Nat.{ℕ, _<_}
 use mathlib.Core.Path.{_≡_}
 use native.Mathlib.Omega.{arith}
@@ -8,8 +9,9 @@ use lib.IntN.{ℤ, pos}
 use mathlib.Core.List.{[], _∷_}
 use Rattle.definitions.specs.Matrix.{Matrix, at, mat}
 use Rattle.definitions.specs.Snf.{Run, points}
-use Rattle.definitions.specs.Cell.{copies, listedPoints}
+use Rattle.definitions.specs.Cell.{listedPoints}
 use Rattle.definitions.specs.Demand.{ExactlyOne, DifferByWhole, Covers}
+use Rattle.definitions.specs.Limits.{copies}
 use Rattle.math_matrix.specs.Laws.{Three}
 use Rattle.math_snf_laws.specs.Runs.{lmr, left-unit, right-unit, diagonal, factor as factor-of}
 use Rattle.base_transformation.specs.Smith.{Smith, factor, diagonalOf}

@@ -1,4 +1,5 @@
--- What an accepted call of `lattice_points` gives its caller: the first |det C| cells of the lent list are points that meet every whole translation once, and the others are zero.
+-- What an accepted call of `lattice_points` gives its caller: the first |det C| cells of the lent list are points that
+-- meet every whole translation once, and the others are zero.
 use Prim.Native.Nat.{ℕ, _+_, _-_, _≤_, _<_}
 use mathlib.Core.Path.{_≡_, sym, ap, subst, _∙_}
 use mathlib.Core.List.{List, [], _∷_}
@@ -10,17 +11,18 @@ use lib.IntN.{ℤ}
 use borrow.Author.Tests.{ltb-false, eqb-false}
 use Rattle.definitions.specs.declared.Verdict.the-variants.{Accepted}
 use Rattle.definitions.specs.Refusal.{Checked, padded}
-use Rattle.definitions.specs.Checked.{numbered, FailAll, past}
 use Rattle.definitions.specs.Matrix.{Matrix}
 use Rattle.definitions.specs.Snf.{points}
-use Rattle.definitions.specs.Cell.{copies, listedPoints}
-use Rattle.definitions.specs.Calls.{pointsConditions}
+use Rattle.definitions.specs.Cell.{listedPoints}
+use Rattle.definitions.specs.Calls.{pointsConditions, PointsLent}
 use Rattle.definitions.specs.Demand.{ExactlyOne, DifferByWhole, Covers}
+use Rattle.definitions.specs.Limits.{copies}
 use Rattle.math_matrix.specs.Laws.{Three}
-use Rattle.base_permutation.specs.Tests.{off, neither-left, neither-right}
-use Rattle.base_permutation.proofs.Filling.{length-padded}
-use Rattle.base_transformation.specs.Answers.{zeroPoint, PointsLent}
+use Rattle.definitions.specs.Lent.{zeroPoint}
 use Rattle.base_transformation.specs.Covered.{run-points-count, run-point-covers, run-covers}
+use Rattle.laws.specs.Order.{numbered, FailAll, past}
+use Rattle.laws.specs.Tests.{off, neither-left, neither-right}
+use Rattle.laws.specs.Filling.{length-padded}
 
 -- the conditions that an accepted call is past
 pub points-facts : (c : Matrix) (room : ℕ) → Checked (pointsConditions c room) Accepted → (0 < copies c) × (copies c ≤ 64) × (copies c ≤ room)
@@ -63,7 +65,8 @@ module _ {c : Matrix} (shape : Three c) (entry exit : List (List ℤ)) (e : Chec
       ∙ getD-append-add (points (lent .0 .third)) (replicate (length entry - n) zeroPoint) k []
       ∙ getD-replicate (length entry - n) k zeroPoint [] (omega (arith, count, lent-length))
 
-  -- every whole translation differs by whole conventional vectors from the point in exactly one of the first |det C| cells
+  -- every whole translation differs by whole conventional vectors from the point in exactly one of the first |det C|
+  -- cells
   pub lent-covers : (a b d : ℤ) → ExactlyOne (copies c) (λ k. DifferByWhole c (a ∷ b ∷ d ∷ []) (getD exit k []))
   lent-covers a b d =
       let x = run-point-covers shape (points-facts c (length entry) e .0) (lent .0) a b d in

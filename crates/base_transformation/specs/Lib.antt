@@ -5,3 +5,4 @@ pub mod Points
 pub mod Covered
 pub mod Answers
 pub mod Lent
+pub mod Listed

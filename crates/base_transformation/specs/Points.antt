@@ -1,4 +1,5 @@
--- No whole translation is counted twice or missed: of the points L⁻¹f just one differs from it by whole conventional vectors.
+-- No whole translation is counted twice or missed: of the points L⁻¹f just one differs from it by whole conventional
+-- vectors.
 use Prim.Native.Nat.{ℕ, _+_, _*_, _/_, _%_, _<_}
 use mathlib.Core.Path.{_≡_, sym, ap, _∙_}
 use mathlib.Core.List.{List, [], _∷_}
@@ -8,10 +9,11 @@ use lib.IntN.{ℤ, pos, _-ℤ_, _*ℤ_}
 use Rattle.definitions.specs.Lists.{upTo}
 use Rattle.definitions.specs.Matrix.{Matrix, item, three, apply, subV, inverse}
 use Rattle.definitions.specs.Snf.{State, box, points}
-use Rattle.definitions.specs.Cell.{copies, listedPoints}
+use Rattle.definitions.specs.Cell.{listedPoints}
 use Rattle.definitions.specs.Demand.{ExactlyOne, DifferByWhole, Covers}
+use Rattle.definitions.specs.Limits.{copies}
 use Rattle.math_matrix.specs.Exprs.{three-eq}
-use Rattle.definitions.specs.ListLaws.{below-upTo, map-at, each-at}
+use Rattle.laws.specs.Lists.{below-upTo, map-at, each-at}
 use Rattle.base_transformation.specs.Residues.{residue, quotient, residue-below, residue-quotient, residue-unique}
 use Rattle.base_transformation.specs.Box.{positive, placeOf, length-box, box-place, placeOf-below, box-below, box-back, box-at}
 use Rattle.base_transformation.specs.Smith.{Smith, factor, volume, d-times, to-diagonal, from-diagonal}

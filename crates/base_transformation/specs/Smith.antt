@@ -1,4 +1,5 @@
--- What the diagonalisation of C gives, and what follows for lattices: v - L⁻¹f is C times whole numbers just where Lv - f is D times whole numbers.
+-- What the diagonalisation of C gives, and what follows for lattices: v - L⁻¹f is C times whole numbers just where Lv -
+-- f is D times whole numbers.
 use Prim.Native.Nat.{ℕ, _*_, _<_}
 use mathlib.Core.Path.{_≡_, sym, ap, _∙_}
 use mathlib.Core.Bool.{cond}
@@ -8,7 +9,7 @@ use lib.Dec.{eqb}
 use lib.IntN.{ℤ, pos, natAbs, _*ℤ_}
 use Rattle.definitions.specs.Matrix.{Matrix, at, mat, item, three, identity, mulM, apply, subV, det, inverse}
 use Rattle.definitions.specs.Snf.{State}
-use Rattle.definitions.specs.Cell.{copies}
+use Rattle.definitions.specs.Limits.{copies}
 use Rattle.math_matrix.specs.Solve.{Expr, var, con, _⊗_, solve}
 use Rattle.math_matrix.specs.Exprs.{solveV, itemsE, applyE, detE}
 use Rattle.math_matrix.specs.Laws.{det-mul, mul-inverse, inverse-mul, apply-mul, apply-sub, apply-identity}

@@ -5,17 +5,14 @@ use borrow.Author.Needs.{needs}
 use borrow.Author.Tests.{lt-ltb, le-ltb, le-leb, lt-leb}
 use Rattle.definitions.specs.Calls.{badPermutation}
 use Rattle.definitions.specs.declared.Verdict.the-variants.{Accepted, Refused}
-use Rattle.definitions.specs.Checked.{untested, is-true, is-false, verdictOf, checked, refused-with, accepted-with}
-use Rattle.base_permutation.specs.Tests.{or-left, or-right, neither}
+use Rattle.laws.specs.Verdicts.{untested, is-true, is-false, verdictOf, checked, refused-with, accepted-with}
 use Rattle.base_permutation.proofs.apply.Statement.{statement}
+use Rattle.laws.specs.Tests.{or-left, or-right, neither}
 use Rattle.base_permutation.proofs.apply.Tie as tie
 
 returns : tie.Need-returns
 unfolding verdictOf
 returns c = refused-with _ _ 2 (checked _ (is-true (lt-ltb _ _ (c .if1 .taken)), (untested, tt)) (Refused 2) refl)
-
-is-permutation-requires : tie.Need-is-permutation-requires
-is-permutation-requires c κs = search needs
 
 returns-2 : tie.Need-returns-2
 unfolding verdictOf
@@ -29,12 +26,6 @@ returns-3 c =
     refused-with _ _ 5
     (checked _ (is-false (le-ltb _ _ (c .before .before .before .if1 .left)), (is-true (or-right (badPermutation (c .before .before .before .before .before .args .p .now)) (le-leb _ _ (c .if3 .taken))), tt)) (Refused 5) refl)
 
-shared-slice-read-wide : tie.Need-shared-slice-read-wide
-shared-slice-read-wide c = search needs
-
-wide-requires : tie.Need-wide-requires
-wide-requires c κs = search needs
-
 returns-4 : tie.Need-returns-4
 unfolding verdictOf
 returns-4 c =
@@ -44,4 +35,6 @@ returns-4 c =
     (c .wide .ensures)
 
 pub apply-spec : {M : Type 1} → statement M
-apply-spec = tie.close (tie.spec returns is-permutation-requires returns-2 returns-3 shared-slice-read-wide wide-requires returns-4)
+apply-spec =
+    tie.close
+    (tie.spec returns (search needs) returns-2 returns-3 (search needs) (search needs) returns-4)

@@ -1,35 +1,18 @@
--- `base_permutation::identity` meets its contract: the verdict is `identity_verdict`'s, and past what is written the list is cleared.
+-- `base_permutation::identity` meets its contract: the verdict is `identity_verdict`'s, and past what is written the
+-- list is cleared.
 use lib.ListN.{length}
 use Rattle.definitions.specs.Lists.{upTo}
-use Rattle.base_permutation.specs.Counting.{length-upTo}
 use borrow.Author.Needs.{needs}
 use Rattle.base_permutation.proofs.Accepted.{identity-facts}
-use Rattle.base_permutation.proofs.Filling.{padded-by}
 use Rattle.base_permutation.proofs.identity.Statement.{statement}
+use Rattle.laws.specs.Counting.{length-upTo}
+use Rattle.laws.specs.Filling.{padded-by}
 use Rattle.base_permutation.proofs.identity.Tie as tie
-
-identity-verdict-requires : tie.Need-identity-verdict-requires
-identity-verdict-requires c κs = search needs
-
-enum-told : tie.Need-enum-told
-enum-told c = search needs
 
 put-identity-requires : tie.Need-put-identity-requires
 put-identity-requires c κs =
     let a = c .before .before .before .before .before .args in
     identity-facts (a .n) (length (a .out .now)) (rw (c .before .enum-told .given .1) at (c .before .before .before .identity-verdict .ensures))
-
-clear-from-requires : tie.Need-clear-from-requires
-clear-from-requires c κs = search needs
-
-enum-told-2 : tie.Need-enum-told-2
-enum-told-2 c = search needs
-
-clear-from-requires-2 : tie.Need-clear-from-requires-2
-clear-from-requires-2 c κs = search needs
-
-same-length : tie.Need-same-length
-same-length c = search needs
 
 returns : tie.Need-returns
 returns c =
@@ -40,27 +23,15 @@ returns c =
     let room = identity-facts (a .n) (length (a .out .now)) (rw told at (v .ensures)) .1 in (
       v .ensures,
       rw told
-          (padded-by 0 (upTo (a .n)) (a .out .now) (c .before .before .clear-from .last .0) (put .put-identity .last .1 .0) (a .n) (length-upTo (a .n)) room (put .put-identity .ensures) (c .before .before .clear-from .ensures)),
+          (padded-by 0 (upTo (a .n)) (a .out .now) (c .before .before .clear-u8 .last .0) (put .put-identity .last .1 .0) (a .n) (length-upTo (a .n)) room (put .put-identity .ensures) (c .before .before .clear-u8 .ensures)),
     )
-
-same-length-2 : tie.Need-same-length-2
-same-length-2 c = search needs
 
 returns-2 : tie.Need-returns-2
 returns-2 c =
-    (c .before .before .before .before .before .before .identity-verdict .ensures, rw (c .before .before .before .before .enum-told2 .given .1) (c .before .before .clear-from2 .ensures))
+    (c .before .before .before .before .before .before .identity-verdict .ensures, rw (c .before .before .before .before .enum-told2 .given .1) (c .before .before .clear-u82 .ensures))
 
 pub identity-spec : {M : Type 1} → statement M
 identity-spec =
     tie.close
-    (tie.spec
-    identity-verdict-requires
-    enum-told
-    put-identity-requires
-    clear-from-requires
-    enum-told-2
-    clear-from-requires-2
-    same-length
-    returns
-    same-length-2
-    returns-2)
+    (tie.spec (search needs) (search needs) put-identity-requires (search needs) (search needs) (search needs)
+    (search needs) returns (search needs) returns-2)

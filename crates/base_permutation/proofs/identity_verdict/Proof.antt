@@ -2,7 +2,7 @@
 use mathlib.Core.Path.{refl}
 use borrow.Author.Tests.{lt-ltb, le-ltb}
 use Rattle.definitions.specs.declared.Verdict.the-variants.{Accepted, Refused}
-use Rattle.definitions.specs.Checked.{untested, is-true, is-false, verdictOf, checked}
+use Rattle.laws.specs.Verdicts.{untested, is-true, is-false, verdictOf, checked}
 use Rattle.base_permutation.proofs.identity_verdict.Statement.{statement}
 use Rattle.base_permutation.proofs.identity_verdict.Tie as tie
 

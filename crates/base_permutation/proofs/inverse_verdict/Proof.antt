@@ -4,16 +4,13 @@ use mathlib.Core.Bool.{not}
 use borrow.Author.Needs.{needs}
 use borrow.Author.Tests.{lt-ltb, le-ltb}
 use Rattle.definitions.specs.declared.Verdict.the-variants.{Accepted, Refused}
-use Rattle.definitions.specs.Checked.{untested, is-true, is-false, verdictOf, checked}
+use Rattle.laws.specs.Verdicts.{untested, is-true, is-false, verdictOf, checked}
 use Rattle.base_permutation.proofs.inverse_verdict.Statement.{statement}
 use Rattle.base_permutation.proofs.inverse_verdict.Tie as tie
 
 returns : tie.Need-returns
 unfolding verdictOf
 returns c = checked _ (is-true (lt-ltb _ _ (c .if1 .taken)), (untested, (untested, tt))) (Refused 2) refl
-
-is-permutation-requires : tie.Need-is-permutation-requires
-is-permutation-requires c κs = search needs
 
 returns-2 : tie.Need-returns-2
 unfolding verdictOf
@@ -31,4 +28,6 @@ returns-4 c =
     checked _ (is-false (le-ltb _ _ (c .before .before .before .if1 .left)), (is-false (ap not (sym (c .before .before .is-permutation .ensures)) ∙ c .before .if2 .left), (is-false (le-ltb _ _ (c .if3 .left)), tt))) Accepted refl
 
 pub inverse-verdict-spec : {M : Type 1} → statement M
-inverse-verdict-spec = tie.close (tie.spec returns is-permutation-requires returns-2 returns-3 returns-4)
+inverse-verdict-spec =
+    tie.close
+    (tie.spec returns (search needs) returns-2 returns-3 returns-4)

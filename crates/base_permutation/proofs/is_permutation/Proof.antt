@@ -1,4 +1,5 @@
--- `base_permutation::is_permutation` meets its contract: the table says which images were met, none of them twice or past the length.
+-- `base_permutation::is_permutation` meets its contract: the table says which images were met, none of them twice or
+-- past the length.
 use Prim.Native.Nat.{ℕ, _-_, _≤_, _<_}
 use mathlib.Core.Path.{_≡_, refl}
 use native.Mathlib.Omega.{arith}
@@ -20,12 +21,6 @@ abbrev μ-loop : tie.MeasureT-loop
 loop-holds : tie.Need-loop-holds Inv-loop μ-loop
 loop-holds c = (omega arith, refl, met-none (c .before .args .p .now), λ j k. absurd (not-suc-le-zero k))
 
-shared-slice-read-wide : tie.Need-shared-slice-read-wide Inv-loop μ-loop
-shared-slice-read-wide c = search needs
-
-wide-requires : tie.Need-wide-requires Inv-loop μ-loop
-wide-requires c κs = search needs
-
 returns : tie.Need-returns Inv-loop μ-loop
 returns c =
     let s = c .before .before .before .before .before .before in
@@ -44,12 +39,6 @@ returns-2 c =
 
 array-write-met : tie.Need-array-write-met Inv-loop μ-loop
 array-write-met c = array-read-if2 (c .before)
-
-add-i : tie.Need-add-i Inv-loop μ-loop
-add-i c = search needs
-
-loop-less : tie.Need-loop-less Inv-loop μ-loop
-loop-less c = search needs
 
 loop-again : tie.Need-loop-again Inv-loop μ-loop
 loop-again c =
@@ -72,17 +61,5 @@ returns-3 c =
 pub is-permutation-spec : {M : Type 1} → statement M
 is-permutation-spec =
     tie.close
-    (tie.spec
-    Inv-loop
-    μ-loop
-    loop-holds
-    shared-slice-read-wide
-    wide-requires
-    returns
-    array-read-if2
-    returns-2
-    array-write-met
-    add-i
-    loop-less
-    loop-again
-    returns-3)
+    (tie.spec Inv-loop μ-loop loop-holds (search needs) (search needs) returns array-read-if2 returns-2
+    array-write-met (search needs) (search needs) loop-again returns-3)

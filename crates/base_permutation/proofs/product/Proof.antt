@@ -1,34 +1,17 @@
--- `base_permutation::product` meets its contract: the verdict is `product_verdict`'s, and past what is written the list is cleared.
+-- `base_permutation::product` meets its contract: the verdict is `product_verdict`'s, and past what is written the list
+-- is cleared.
 use lib.ListN.{length, length-map}
 use Rattle.definitions.specs.Permutation.{image, after}
 use borrow.Author.Needs.{needs}
 use Rattle.base_permutation.proofs.Accepted.{product-facts}
-use Rattle.base_permutation.proofs.Filling.{padded-by}
 use Rattle.base_permutation.proofs.product.Statement.{statement}
+use Rattle.laws.specs.Filling.{padded-by}
 use Rattle.base_permutation.proofs.product.Tie as tie
-
-product-verdict-requires : tie.Need-product-verdict-requires
-product-verdict-requires c κs = search needs
-
-enum-told : tie.Need-enum-told
-enum-told c = search needs
 
 put-product-requires : tie.Need-put-product-requires
 put-product-requires c κs =
     let a = c .before .before .before .before .before .before .before .args in
     product-facts (a .p .now) (a .q .now) (length (a .out .now)) (rw (c .before .enum-told .given .1) at (c .before .before .before .product-verdict .ensures))
-
-clear-from-requires : tie.Need-clear-from-requires
-clear-from-requires c κs = search needs
-
-enum-told-2 : tie.Need-enum-told-2
-enum-told-2 c = search needs
-
-clear-from-requires-2 : tie.Need-clear-from-requires-2
-clear-from-requires-2 c κs = search needs
-
-same-length : tie.Need-same-length
-same-length c = search needs
 
 returns : tie.Need-returns
 returns c =
@@ -39,27 +22,15 @@ returns c =
     let room = product-facts (a .p .now) (a .q .now) (length (a .out .now)) (rw told at (v .ensures)) .3 in (
       v .ensures,
       rw told
-          (padded-by 0 (after (a .p .now) (a .q .now)) (a .out .now) (c .before .before .clear-from .last .0) (put .put-product .last .1 .1 .0) (length (a .q .now)) (length-map (a .q .now) (image (a .p .now))) room (put .put-product .ensures) (c .before .before .clear-from .ensures)),
+          (padded-by 0 (after (a .p .now) (a .q .now)) (a .out .now) (c .before .before .clear-u8 .last .0) (put .put-product .last .1 .1 .0) (length (a .q .now)) (length-map (a .q .now) (image (a .p .now))) room (put .put-product .ensures) (c .before .before .clear-u8 .ensures)),
     )
-
-same-length-2 : tie.Need-same-length-2
-same-length-2 c = search needs
 
 returns-2 : tie.Need-returns-2
 returns-2 c =
-    (c .before .before .before .before .before .before .product-verdict .ensures, rw (c .before .before .before .before .enum-told2 .given .1) (c .before .before .clear-from2 .ensures))
+    (c .before .before .before .before .before .before .product-verdict .ensures, rw (c .before .before .before .before .enum-told2 .given .1) (c .before .before .clear-u82 .ensures))
 
 pub product-spec : {M : Type 1} → statement M
 product-spec =
     tie.close
-    (tie.spec
-    product-verdict-requires
-    enum-told
-    put-product-requires
-    clear-from-requires
-    enum-told-2
-    clear-from-requires-2
-    same-length
-    returns
-    same-length-2
-    returns-2)
+    (tie.spec (search needs) (search needs) put-product-requires (search needs) (search needs) (search needs)
+    (search needs) returns (search needs) returns-2)

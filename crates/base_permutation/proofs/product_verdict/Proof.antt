@@ -5,11 +5,12 @@ use lib.ListN.{length}
 use lib.Dec.{eqb}
 use borrow.Author.Needs.{needs}
 use borrow.Author.Tests.{lt-ltb, le-ltb, eq-eqb, ne-eqb}
-use Rattle.definitions.specs.Calls.{tooManySites, badPermutation}
+use Rattle.definitions.specs.Calls.{badPermutation}
 use Rattle.definitions.specs.declared.Verdict.the-variants.{Accepted, Refused}
-use Rattle.definitions.specs.Checked.{untested, is-true, is-false, verdictOf, checked}
-use Rattle.base_permutation.specs.Tests.{or-left, or-right, neither}
+use Rattle.definitions.specs.Limits.{tooManySites}
+use Rattle.laws.specs.Verdicts.{untested, is-true, is-false, verdictOf, checked}
 use Rattle.base_permutation.proofs.product_verdict.Statement.{statement}
+use Rattle.laws.specs.Tests.{or-left, or-right, neither}
 use Rattle.base_permutation.proofs.product_verdict.Tie as tie
 
 -- past the tests of the lengths, and past those of the images
@@ -31,16 +32,10 @@ returns-2 : tie.Need-returns-2
 unfolding verdictOf
 returns-2 c = checked _ (is-true (or-right (tooManySites (length (c .before .before .before .before .args .p .now))) (ap not (ne-eqb _ _ (c .if2 .taken)))), (untested, (untested, tt))) (Refused 2) refl
 
-is-permutation-requires : tie.Need-is-permutation-requires
-is-permutation-requires c κs = search needs
-
 returns-3 : tie.Need-returns-3
 unfolding verdictOf
 returns-3 c =
     checked _ (is-false (lengths (c .before .before)), (is-true (or-left _ (ap not (sym (c .before .is-permutation .ensures)) ∙ c .if3 .taken)), (untested, tt))) (Refused 5) refl
-
-is-permutation-requires-2 : tie.Need-is-permutation-requires-2
-is-permutation-requires-2 c κs = search needs
 
 returns-4 : tie.Need-returns-4
 unfolding verdictOf
@@ -59,4 +54,5 @@ returns-6 c =
 
 pub product-verdict-spec : {M : Type 1} → statement M
 product-verdict-spec =
-    tie.close (tie.spec returns returns-2 is-permutation-requires returns-3 is-permutation-requires-2 returns-4 returns-5 returns-6)
+    tie.close
+    (tie.spec returns returns-2 (search needs) returns-3 (search needs) returns-4 returns-5 returns-6)

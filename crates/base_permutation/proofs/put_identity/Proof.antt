@@ -6,9 +6,9 @@ use native.Mathlib.Omega.{arith}
 use lib.ListN.{length, take, drop, length-set}
 use borrow.Author.Needs.{needs}
 use Rattle.definitions.specs.Lists.{upTo}
-use Rattle.base_permutation.specs.Counting.{length-upTo, getD-upTo}
-use Rattle.base_permutation.proofs.Filling.{put-step, put-end}
 use Rattle.base_permutation.proofs.put_identity.Statement.{statement}
+use Rattle.laws.specs.Counting.{length-upTo, getD-upTo}
+use Rattle.laws.specs.Filling.{put-step, put-end}
 use Rattle.base_permutation.proofs.put_identity.Tie as tie
 
 abbrev Inv-loop : tie.InvT-loop
@@ -23,15 +23,6 @@ loop-holds c = (omega arith, refl, refl)
 cast-out : tie.Need-cast-out Inv-loop μ-loop
 cast-out c = omega arith
 
-slice-write-out : tie.Need-slice-write-out Inv-loop μ-loop
-slice-write-out c = search needs
-
-add-i : tie.Need-add-i Inv-loop μ-loop
-add-i c = search needs
-
-loop-less : tie.Need-loop-less Inv-loop μ-loop
-loop-less c = search needs
-
 loop-again : tie.Need-loop-again Inv-loop μ-loop
 loop-again c =
     let l = c .before .loop in
@@ -40,9 +31,6 @@ loop-again c =
     let h : l .i < n = omega arith in
     (omega arith, simp length-set (l .inv .1), put-step 0 (upTo n) (s .args .out .now) (l .out) (l .i) (l .i) (l .inv .2) (omega (arith, length-upTo n)) (omega arith) (sym (getD-upTo n (l .i) 0 h)))
 
-same-length : tie.Need-same-length Inv-loop μ-loop
-same-length c = search needs
-
 returns : tie.Need-returns Inv-loop μ-loop
 returns c =
     let l = c .before .loop in
@@ -50,4 +38,7 @@ returns c =
     put-end 0 (upTo (s .args .n)) (s .args .out .now) (l .out) (l .i) (s .args .n) (l .inv .2) (length-upTo (s .args .n)) (omega arith)
 
 pub put-identity-spec : {M : Type 1} → statement M
-put-identity-spec = tie.close (tie.spec Inv-loop μ-loop loop-holds cast-out slice-write-out add-i loop-less loop-again same-length returns)
+put-identity-spec =
+    tie.close
+    (tie.spec Inv-loop μ-loop loop-holds cast-out (search needs) (search needs) (search needs) loop-again
+    (search needs) returns)

@@ -1,4 +1,5 @@
--- `base_permutation::put_inverse` meets its contract: the cell of the image of each j below i holds j, and the cells past the answer are as they were.
+-- `base_permutation::put_inverse` meets its contract: the cell of the image of each j below i holds j, and the cells
+-- past the answer are as they were.
 use Prim.Native.Nat.{_-_, _≤_, _<_}
 use mathlib.Core.Path.{_≡_, refl, _∙_}
 use native.Mathlib.Omega.{arith}
@@ -23,12 +24,6 @@ bijective s = bijection (length (s .args .p .now)) (s .args .p .now) (s .pre .1)
 loop-holds : tie.Need-loop-holds Inv-loop μ-loop
 loop-holds c = (omega arith, refl, refl, λ j k. absurd (not-suc-le-zero k))
 
-shared-slice-read-wide : tie.Need-shared-slice-read-wide Inv-loop μ-loop
-shared-slice-read-wide c = search needs
-
-wide-requires : tie.Need-wide-requires Inv-loop μ-loop
-wide-requires c κs = search needs
-
 cast-out : tie.Need-cast-out Inv-loop μ-loop
 cast-out c = omega arith
 
@@ -43,12 +38,6 @@ image-below c =
 slice-write-out : tie.Need-slice-write-out Inv-loop μ-loop
 slice-write-out c = omega (arith, image-below c)
 
-add-i : tie.Need-add-i Inv-loop μ-loop
-add-i c = search needs
-
-loop-less : tie.Need-loop-less Inv-loop μ-loop
-loop-less c = search needs
-
 loop-again : tie.Need-loop-again Inv-loop μ-loop
 loop-again c =
     let s = c .before .before .before .before .before .before in
@@ -62,9 +51,6 @@ loop-again c =
       place (length p) p (bijective s) (l .out) room (l .i) (c .wide .result) k (c .wide .ensures) (l .inv .3),
     )
 
-same-length : tie.Need-same-length Inv-loop μ-loop
-same-length c = search needs
-
 returns : tie.Need-returns Inv-loop μ-loop
 returns c =
     let s = c .before .before .before .before in
@@ -77,16 +63,5 @@ returns c =
 pub put-inverse-spec : {M : Type 1} → statement M
 put-inverse-spec =
     tie.close
-    (tie.spec
-    Inv-loop
-    μ-loop
-    loop-holds
-    shared-slice-read-wide
-    wide-requires
-    cast-out
-    slice-write-out
-    add-i
-    loop-less
-    loop-again
-    same-length
-    returns)
+    (tie.spec Inv-loop μ-loop loop-holds (search needs) (search needs) cast-out slice-write-out (search needs)
+    (search needs) loop-again (search needs) returns)

@@ -7,8 +7,8 @@ use lib.ListN.{length, take, drop, length-set, length-map}
 use borrow.Author.Needs.{needs}
 use Rattle.definitions.specs.Permutation.{image, after}
 use Rattle.base_permutation.specs.Bijection.{bijection, image-map}
-use Rattle.base_permutation.proofs.Filling.{put-step, put-end}
 use Rattle.base_permutation.proofs.put_product.Statement.{statement}
+use Rattle.laws.specs.Filling.{put-step, put-end}
 use Rattle.base_permutation.proofs.put_product.Tie as tie
 
 abbrev Inv-loop : tie.InvT-loop
@@ -20,12 +20,6 @@ abbrev μ-loop : tie.MeasureT-loop
 loop-holds : tie.Need-loop-holds Inv-loop μ-loop
 loop-holds c = (omega arith, refl, refl)
 
-shared-slice-read-wide : tie.Need-shared-slice-read-wide Inv-loop μ-loop
-shared-slice-read-wide c = search needs
-
-wide-requires : tie.Need-wide-requires Inv-loop μ-loop
-wide-requires c κs = search needs
-
 shared-slice-read-out : tie.Need-shared-slice-read-out Inv-loop μ-loop
 shared-slice-read-out c =
     let s = c .before .before .before .before .before .before .before .before in
@@ -35,15 +29,6 @@ shared-slice-read-out c =
     let w = c .before .wide .ensures in
     omega (arith, bijection (length p) p (s .pre .1) .below (l .i) (omega arith), bijection (length q) q (s .pre .2) .below (l .i) (omega arith))
 
-slice-write-out : tie.Need-slice-write-out Inv-loop μ-loop
-slice-write-out c = search needs
-
-add-i : tie.Need-add-i Inv-loop μ-loop
-add-i c = search needs
-
-loop-less : tie.Need-loop-less Inv-loop μ-loop
-loop-less c = search needs
-
 loop-again : tie.Need-loop-again Inv-loop μ-loop
 loop-again c =
     let s = c .before .before .before .before .before .before .before .before in
@@ -52,9 +37,6 @@ loop-again c =
     let q = s .args .q .now in
     let k : l .i < length q = omega arith in
     (omega arith, simp length-set (l .inv .1), put-step 0 (after p q) (s .args .out .now) (l .out) (l .i) (image p (c .before .wide .result)) (l .inv .2) (omega (arith, length-map q (image p))) (omega arith) (ap (image p) (c .before .wide .ensures) ∙ sym (image-map (image p) q (l .i) k)))
-
-same-length : tie.Need-same-length Inv-loop μ-loop
-same-length c = search needs
 
 returns : tie.Need-returns Inv-loop μ-loop
 returns c =
@@ -67,16 +49,5 @@ returns c =
 pub put-product-spec : {M : Type 1} → statement M
 put-product-spec =
     tie.close
-    (tie.spec
-    Inv-loop
-    μ-loop
-    loop-holds
-    shared-slice-read-wide
-    wide-requires
-    shared-slice-read-out
-    slice-write-out
-    add-i
-    loop-less
-    loop-again
-    same-length
-    returns)
+    (tie.spec Inv-loop μ-loop loop-holds (search needs) (search needs) shared-slice-read-out (search needs)
+    (search needs) (search needs) loop-again (search needs) returns)

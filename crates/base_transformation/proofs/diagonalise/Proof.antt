@@ -4,15 +4,6 @@ use borrow.Author.Needs.{needs}
 use Rattle.base_transformation.proofs.diagonalise.Statement.{statement}
 use Rattle.base_transformation.proofs.diagonalise.Tie as tie
 
-snf-requires : tie.Need-snf-requires
-snf-requires c κs = search needs
-
-enum-told : tie.Need-enum-told
-enum-told c = search needs
-
-enum-told-2 : tie.Need-enum-told-2
-enum-told-2 c = search needs
-
 returns : tie.Need-returns
 returns c =
     let s = c .before .before .before .before .before .before in
@@ -26,4 +17,6 @@ returns-2 c =
     snf-refuses (s .args .c) (s .pre) _ (rw (c .enum-told2 .given .1) at (f .ensures .0))
 
 pub diagonalise-spec : {M : Type 1} → statement M
-diagonalise-spec = tie.close (tie.spec snf-requires enum-told enum-told-2 returns returns-2)
+diagonalise-spec =
+    tie.close
+    (tie.spec (λ c κs. search needs) (λ c. search needs) (λ c. search needs) returns returns-2)

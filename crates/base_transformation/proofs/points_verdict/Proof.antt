@@ -5,23 +5,19 @@ use lib.Dec.{ltb}
 use borrow.Author.Needs.{needs}
 use borrow.Author.Tests.{lt-ltb, le-ltb, not-true, not-false}
 use Rattle.definitions.specs.declared.Verdict.the-variants.{Accepted, Refused}
-use Rattle.definitions.specs.Standardize.{inRange}
-use Rattle.definitions.specs.Calls.{badCopies}
-use Rattle.definitions.specs.Checked.{holds, fails, untested, is-true, is-false, verdictOf, checked}
-use Rattle.base_checks.proofs.Laws.{applies, passed}
+use Rattle.definitions.specs.Limits.{inRange, badCopies}
+use Rattle.laws.specs.Verdicts.{holds, fails, untested, is-true, is-false, verdictOf, checked}
 use Rattle.base_transformation.specs.Answers.{Diagonalised}
 use Rattle.base_transformation.proofs.points_verdict.Statement.{statement}
+use Rattle.laws.specs.Tests.{branch-fails, branch-passes}
 use Rattle.base_transformation.proofs.points_verdict.Tie as tie
-
-in-range-requires : tie.Need-in-range-requires
-in-range-requires c κs = search needs
 
 -- what is known past each test
 entries : (c : tie.Else1) → not (inRange (c .before .before .args .c)) ≡ false
 entries c = ap not (sym (c .before .in-range .ensures)) ∙ c .if1 .left
 
 copied : (c : tie.Else2) → badCopies (c .before .before .before .before .args .c) ≡ false
-copied c = passed (c .before .good-copies .result) (badCopies (c .before .before .before .before .args .c)) (c .before .good-copies .ensures) (c .if2 .left)
+copied c = branch-passes (c .before .good-copies .result) (badCopies (c .before .before .before .before .args .c)) (c .before .good-copies .ensures) (c .if2 .left)
 
 ended : (c : tie.Else3) → Diagonalised (c .before .before .before .before .before .before .before .before .args .c) (c .before .diagonalise .last .1 .0) (c .before .diagonalise .last .1 .1 .0) true
 ended c =
@@ -34,14 +30,11 @@ unfolding verdictOf
 returns c =
     (checked _ (is-true (ap not (sym (c .before .in-range .ensures)) ∙ c .if1 .taken), (untested, (untested, (untested, tt)))) (Refused 3) refl, tt)
 
-good-copies-requires : tie.Need-good-copies-requires
-good-copies-requires c κs = search needs
-
 returns-2 : tie.Need-returns-2
 unfolding verdictOf
 returns-2 c =
     let bad =
-    applies (c .before .good-copies .result) (badCopies (c .before .before .before .before .args .c)) (c .before .good-copies .ensures) (c .if2 .taken) in
+    branch-fails (c .before .good-copies .result) (badCopies (c .before .before .before .before .args .c)) (c .before .good-copies .ensures) (c .if2 .taken) in
     (checked _ (is-false (entries (c .before .before)), (is-true bad, (untested, (untested, tt)))) (Refused 7) refl, tt)
 
 diagonalise-requires : tie.Need-diagonalise-requires
@@ -56,9 +49,6 @@ returns-3 c =
     let leaves =
     subst (Diagonalised (e .before .before .before .before .args .c) (f .last .1 .0) (f .last .1 .1 .0)) (not-true (f .result) (c .if3 .taken)) (f .ensures) in
     (checked _ (is-false (entries (e .before .before)), (is-false (copied e), (holds leaves, (untested, tt)))) (Refused 8) refl, tt)
-
-copies-requires : tie.Need-copies-requires
-copies-requires c κs = search needs
 
 returns-4 : tie.Need-returns-4
 unfolding verdictOf
@@ -79,13 +69,5 @@ returns-5 c =
 pub points-verdict-spec : {M : Type 1} → statement M
 points-verdict-spec =
     tie.close
-    (tie.spec
-    in-range-requires
-    returns
-    good-copies-requires
-    returns-2
-    diagonalise-requires
-    returns-3
-    copies-requires
-    returns-4
-    returns-5)
+    (tie.spec (λ c κs. search needs) returns (λ c κs. search needs) returns-2 diagonalise-requires returns-3
+    (λ c κs. search needs) returns-4 returns-5)

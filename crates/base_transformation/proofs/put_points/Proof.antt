@@ -7,9 +7,9 @@ use lib.ListN.{length, take, drop, length-set}
 use borrow.Author.Needs.{needs}
 use Rattle.definitions.specs.Matrix.{apply}
 use Rattle.definitions.specs.Snf.{box}
-use Rattle.base_permutation.proofs.Filling.{put-step, put-end}
 use Rattle.base_transformation.proofs.Points.{box-points, point-at, factors}
 use Rattle.base_transformation.proofs.put_points.Statement.{statement}
+use Rattle.laws.specs.Filling.{put-step, put-end}
 use Rattle.base_transformation.proofs.put_points.Tie as tie
 
 abbrev Inv-loop : tie.InvT-loop
@@ -19,7 +19,7 @@ abbrev μ-loop : tie.MeasureT-loop
 μ-loop m a b c out₀ n k₀ out k = n - k
 
 mul-n : tie.Need-mul-n Inv-loop μ-loop
-mul-n c = omega (arith, factors (c .args .a) (c .args .b) (c .args .c) 0 (c .pre .1) .2)
+mul-n c = omega (arith, factors (c .args .a) (c .args .b) (c .args .c) 0 (c .pre .0) .2)
 
 mul-n-2 : tie.Need-mul-n-2 Inv-loop μ-loop
 mul-n-2 c = omega arith
@@ -35,36 +35,18 @@ digits-requires c κs =
     let f = factors (a .a) (a .b) (a .c) k h in
     (omega arith, f .0, f .1, omega (arith, f .3))
 
-times-column-requires : tie.Need-times-column-requires Inv-loop μ-loop
-times-column-requires c κs = search needs
-
-mul-t12 : tie.Need-mul-t12 Inv-loop μ-loop
-mul-t12 c = search needs
-
-slice-set-from-out : tie.Need-slice-set-from-out Inv-loop μ-loop
-slice-set-from-out c = search needs
-
-add-k : tie.Need-add-k Inv-loop μ-loop
-add-k c = search needs
-
-loop-less : tie.Need-loop-less Inv-loop μ-loop
-loop-less c = search needs
-
 loop-again : tie.Need-loop-again Inv-loop μ-loop
 loop-again c =
     let l = c .before .before .before .loop in
     let a = c .before .before .before .before .args in
     let ps = map (apply (a .m)) (box (a .a) (a .b) (a .c)) in
     let h : l .k < a .a * a .b * a .c = omega arith in
-    let x = point-at (a .m) (a .a) (a .b) (a .c) (l .k) (c .before .digits .result) (c .times-column .result) h (c .before .digits .ensures) (c .times-column .ensures) in (
+    let x = point-at (a .m) (a .a) (a .b) (a .c) (l .k) (c .before .digits .result) (c .apply .result) h (c .before .digits .ensures) (c .apply .ensures) in (
       l .inv .0,
       omega arith,
       simp length-set (l .inv .2),
-      put-step [] ps (a .out .now) (l .out) (l .k) (c .times-column .result) (l .inv .3) (omega (arith, box-points (a .m) (a .a) (a .b) (a .c))) (omega arith) x,
+      put-step [] ps (a .out .now) (l .out) (l .k) (c .apply .result) (l .inv .3) (omega (arith, box-points (a .m) (a .a) (a .b) (a .c))) (omega arith) x,
     )
-
-same-length : tie.Need-same-length Inv-loop μ-loop
-same-length c = search needs
 
 returns : tie.Need-returns Inv-loop μ-loop
 returns c =
@@ -75,18 +57,5 @@ returns c =
 pub put-points-spec : {M : Type 1} → statement M
 put-points-spec =
     tie.close
-    (tie.spec
-    Inv-loop
-    μ-loop
-    mul-n
-    mul-n-2
-    loop-holds
-    digits-requires
-    times-column-requires
-    mul-t12
-    slice-set-from-out
-    add-k
-    loop-less
-    loop-again
-    same-length
-    returns)
+    (tie.spec Inv-loop μ-loop mul-n mul-n-2 loop-holds digits-requires (λ c κs. search needs) (λ c. search needs)
+    (λ c. search needs) (λ c. search needs) (λ c. search needs) loop-again (λ c. search needs) returns)
