@@ -1,5 +1,10 @@
--- Theorems on the coordinate triplets of the definitions.
+-- Coordinates: their reading back, its soundness and uniqueness, the meaning of rows and origin; the scan that the code
+-- makes.
 pub mod Reader
 pub mod Sound
 pub mod Reading
 pub mod Meaning
+pub mod Origin
+pub mod Scan
+pub mod Scanned
+pub mod Terms

@@ -8,9 +8,10 @@ use lib.Dec.{T, ltb, eqb, ltb→lt}
 use lib.Ieee.Fits.{and-l, and-r}
 use native.Mathlib.Omega.{arith}
 use native.Mathlib.Decide.{ℕ-discrete}
-use Rattle.definitions.specs.ListLaws.{true-of, all-head, all-tail}
+use Rattle.laws.specs.Lists.{all-head, all-tail}
 use Rattle.definitions.specs.Lists.{all, each, first}
 use Rattle.definitions.specs.Coordinates.{Axis, Item, Signed, Term, Triplet, isItem, itemOf, isTerm, isTriplet, printAxis, printDigit, printItem, printFirst, printNext, printTerm, print}
+use Rattle.laws.specs.Tests.{true-of}
 
 -- ---- its steps
 
@@ -63,7 +64,8 @@ close dash i = record { first = Signed.minus i; rest = [] }
 close (add t) i = record { first = t .first; rest = t .rest ++ (Signed.plus i ∷ []) }
 close (sub t) i = record { first = t .first; rest = t .rest ++ (Signed.minus i ∷ []) }
 
--- What is read: the terms before the last comma, and of the next one a lead; a lead and a digit; these and a `/`; or a term
+-- What is read: the terms before the last comma, and of the next one a lead; a lead and a digit; these and a `/`; or a
+-- term
 -- that ends in an axis or a denominator.
 pub data State : Type 0 where
   due : List Term → Lead → State

@@ -6,27 +6,6 @@ use Rattle.definitions.specs.declared.Centering.the-variants.{P, A, B, C, I, R,
 use Rattle.data_centering.proofs.linear.Statement.{statement}
 use Rattle.data_centering.proofs.linear.Tie as tie
 
-enum-told : tie.Need-enum-told
-enum-told c = search needs
-
-enum-told-2 : tie.Need-enum-told-2
-enum-told-2 c = search needs
-
-enum-told-3 : tie.Need-enum-told-3
-enum-told-3 c = search needs
-
-enum-told-4 : tie.Need-enum-told-4
-enum-told-4 c = search needs
-
-enum-told-5 : tie.Need-enum-told-5
-enum-told-5 c = search needs
-
-enum-told-6 : tie.Need-enum-told-6
-enum-told-6 c = search needs
-
-enum-told-7 : tie.Need-enum-told-7
-enum-told-7 c = search needs
-
 returns : tie.Need-returns
 unfolding linear
 returns c = let e : c .before .before .args .centering ≡ P = search needs in rw e
@@ -58,18 +37,5 @@ returns-7 c = let e : c .before .before .args .centering ≡ F = search needs in
 pub linear-spec : {M : Type 1} → statement M
 linear-spec =
     tie.close
-    (tie.spec
-    enum-told
-    enum-told-2
-    enum-told-3
-    enum-told-4
-    enum-told-5
-    enum-told-6
-    enum-told-7
-    returns
-    returns-2
-    returns-3
-    returns-4
-    returns-5
-    returns-6
-    returns-7)
+    (tie.spec (search needs) (search needs) (search needs) (search needs) (search needs) (search needs) (search needs)
+    returns returns-2 returns-3 returns-4 returns-5 returns-6 returns-7)
