@@ -1,13 +1,15 @@
 -- A job's bytes are read back: at most one job has them.
 use Prim.Native.Nat.{ℕ}
 use mathlib.Core.Path.{_≡_, refl, sym, ap, _∙_}
+use mathlib.Core.Bool.{_&&_}
 use mathlib.Core.List.{List, [], _∷_, _++_, append-nil}
 use mathlib.Core.Option.{Option, none, some, Option·some-injective, Option·none-ne-some}
 use lib.Dec.{T}
 use lib.IntN.{ℤ}
 use lib.Pow.{areBytes}
 use Rattle.definitions.specs.Lists.{each}
-use Rattle.definitions.specs.Job.{Parts, SitePart, OperationPart, CandidatePart, holdsSite, holdsOperation, holdsCandidate, holdsParts, unsigneds, signeds, bytes, signedBytes, floats, entries, encode, IsJob, EncodeInjective}
+use Rattle.definitions.specs.Job.{Parts, latticeCommand, transformation, centring, SitePart, OperationPart, CandidatePart, holdsSite, holdsOperation, holdsCandidate, holdsParts, unsigneds, signeds, bytes, signedBytes, floats, entries, encode, IsJob, EncodeInjective}
+use Rattle.definitions.specs.Limits.{text-bytes}
 use Rattle.job.specs.Reader.{Reader, Inverse, number, integer, times, behind, closed, atMost, many, mapped, _then_, number-inverse, integer-inverse, times-inverse, behind-inverse, many-after, closed-inverse, mapped-inverse, then-inverse}
 
 -- ---- the operands of each command
@@ -25,7 +27,7 @@ abbrev pub readOperation : Reader OperationPart
 readOperation = mapped (λ x. record { rotation = x .0; translation = x .1 }) (readEntries then readFloats 3)
 
 abbrev pub readCandidate : Reader CandidatePart
-readCandidate = mapped (λ x. record { multiplicity = x .0 .0; letter = x .0 .1; text = x .1 }) (number 2 then number 1 then times 64 (number 1))
+readCandidate = mapped (λ x. record { multiplicity = x .0 .0; letter = x .0 .1; text = x .1 }) (number 2 then number 1 then times text-bytes (number 1))
 
 pub floats-inverse : (k : ℕ) → Inverse [] (unsigneds k 8) floats (readFloats k)
 floats-inverse k = times-inverse (number-inverse 8) k
@@ -42,9 +44,31 @@ operation-inverse = mapped-inverse (then-inverse entries-inverse (floats-inverse
 pub candidate-inverse : Inverse [] holdsCandidate (λ w. bytes 2 (w .multiplicity) ++ bytes 1 (w .letter) ++ each (bytes 1) (w .text)) readCandidate
 candidate-inverse =
     let numbers = then-inverse (number-inverse 2) (number-inverse 1) (λ b k c. tt) in
-    mapped-inverse (then-inverse numbers (times-inverse (number-inverse 1) 64) (λ b k c. tt)) _ (λ w. ((w .multiplicity, w .letter), w .text)) (λ x. refl) (λ w. refl)
+    mapped-inverse (then-inverse numbers (times-inverse (number-inverse 1) text-bytes) (λ b k c. tt)) _ (λ w. ((w .multiplicity, w .letter), w .text)) (λ x. refl) (λ w. refl)
 
 -- ---- the commands in their order
+
+abbrev pub readLattice : Reader (List ℕ)
+readLattice = behind 76 (readFloats 9)
+
+abbrev pub readTransformation : Reader (List ℤ × List ℕ)
+readTransformation = behind 84 (readEntries then readFloats 3)
+
+-- the setting
+abbrev pub readCentring : Reader (List ℤ)
+readCentring = behind 67 readEntries
+
+abbrev pub readSites : Reader (List SitePart)
+readSites = many 83 readSite
+
+pub lattice-inverse : Inverse [] (unsigneds 9 8) latticeCommand readLattice
+lattice-inverse = behind-inverse (floats-inverse 9) 76
+
+pub transformation-inverse : Inverse [] (λ x. signeds 9 1 (x .0) && unsigneds 3 8 (x .1)) (λ x. transformation (x .0) (x .1)) readTransformation
+transformation-inverse = behind-inverse (then-inverse entries-inverse (floats-inverse 3) (λ b k c. tt)) 84
+
+pub centring-inverse : Inverse [] (signeds 9 1) centring readCentring
+centring-inverse = behind-inverse entries-inverse 67
 
 abbrev pub Opening : Type 0
 Opening = (List ℕ × (List ℤ × List ℕ)) × List ℤ
@@ -53,10 +77,10 @@ abbrev pub Body : Type 0
 Body = (((((Opening × List SitePart) × List OperationPart) × List ℕ) × List OperationPart) × List (List ℤ)) × List CandidatePart
 
 abbrev pub readOpening : Reader Opening
-readOpening = behind 76 (readFloats 9) then behind 84 (readEntries then readFloats 3) then behind 67 readEntries
+readOpening = readLattice then readTransformation then readCentring
 
 abbrev pub readBody : Reader Body
-readBody = readOpening then many 83 readSite then many 79 readOperation then many 80 (number 1) then many 71 readOperation then many 82 readEntries then many 87 readCandidate
+readBody = readOpening then readSites then many 79 readOperation then many 80 (number 1) then many 71 readOperation then many 82 readEntries then many 87 readCandidate
 
 abbrev pub toParts : Body × ℕ → Parts
 toParts x =
@@ -84,9 +108,7 @@ readParts = closed (mapped toParts (readBody then behind 78 (number 8))) 90
 pub parts-inverse : Inverse [] holdsParts encode readParts
 unfolding readParts holdsParts encode
 parts-inverse =
-    let lattice = behind-inverse (floats-inverse 9) 76 in
-    let transformation = behind-inverse (then-inverse entries-inverse (floats-inverse 3) (λ b k c. tt)) 84 in
-    let once = then-inverse (then-inverse lattice transformation (λ b k c. tt)) (behind-inverse entries-inverse 67) (λ b k c. tt) in
+    let once = then-inverse (then-inverse lattice-inverse transformation-inverse (λ b k c. tt)) centring-inverse (λ b k c. tt) in
     let sites = many-after once site-inverse 83 (λ k. tt) in
     let operations = many-after sites operation-inverse 79 (λ k. tt) in
     let images = many-after operations (number-inverse 1) 80 (λ k. tt) in

@@ -1,4 +1,5 @@
--- Readers of bytes, each with the printer that it undoes: a number, k operands, two operands, a command, a run of items.
+-- Readers of bytes, each with the printer that it undoes: a number, k operands, two operands, a command, a run of
+-- items.
 use Prim.Native.Nat.{ℕ, zero, suc, _+_, _-_, _*_, _/_, _%_, _^_, _≤_, _<_}
 use native.Mathlib.Nat.{pow-suc}
 use native.Mathlib.Omega.{arith}
@@ -11,9 +12,9 @@ use lib.Dec.{T, ltb, eqb, ltb→lt, lt→ltb, eqb→eq, eqb-refl}
 use lib.IntN.{ℤ, pos, negsuc}
 use lib.Pow.{areBytes}
 use borrow.Author.Tests.{lt-ltb, le-ltb, ltb-true, ltb-false, eq-eqb, eqb-true}
-use Rattle.definitions.specs.ListLaws.{both-pass, pass-both}
 use Rattle.definitions.specs.Lists.{all, each}
 use Rattle.definitions.specs.Job.{unsigned, signed, bytes, complement, signedBytes}
+use Rattle.laws.specs.Tests.{both-pass, pass-both}
 
 -- what is read, and the bytes behind it
 abbrev pub Reader : Type 0 → Type 0
@@ -28,7 +29,8 @@ abbrev pub clear : List ℕ → List ℕ → Bool
 clear [] k = true
 clear (c ∷ cs) k = not (begins c k) && clear cs k
 
--- What holds is read back, whatever is behind it but for the commands cs; and what is read from bytes holds, and prints as them.
+-- What holds is read back, whatever is behind it but for the commands cs; and what is read from bytes holds, and prints
+-- as them.
 pub record Inverse {A : Type 0} (cs : List ℕ) (holds : A → Bool) (print : A → List ℕ) (read : Reader A) : Type 0 where
   pub forth : (a : A) (k : List ℕ) → T (holds a) → T (clear cs k) → read (print a ++ k) ≡ some (a, k)
   pub back : (bs : List ℕ) (a : A) (k : List ℕ) → T (areBytes bs) → read bs ≡ some (a, k) → T (holds a) × (print a ++ k ≡ bs)

@@ -10,44 +10,20 @@ use lib.Seq.{drop-cons}
 use lib.Ieee.{lt, eq}
 use lib.Dec.{T, ltb, eqb}
 use borrow.Author.Tests.{ltb-false}
+use Rattle.laws.specs.Tests.{without}
 use Rattle.definitions.specs.declared.Verdict.{Verdict}
 use Rattle.definitions.specs.declared.Verdict.the-variants.{Accepted, Refused}
 use Rattle.definitions.specs.Lists.{all}
 use Rattle.definitions.specs.Refusal.{Checked}
-use Rattle.definitions.specs.Checked.{untested, is-true, is-false, TestedAll, verdictOf, checked}
-use Rattle.definitions.specs.Standardize.{notSome, inRange, within}
-use Rattle.definitions.specs.Calls.{latticeConditions, notUnimodular, badCopies}
+use Rattle.laws.specs.Verdicts.{untested, is-true, is-false, TestedAll, verdictOf, checked}
+use Rattle.definitions.specs.Calls.{latticeConditions}
 use Rattle.definitions.specs.Matrix.{Matrix}
 use Rattle.definitions.specs.Real.{RealMatrix, zeroF, atF, transposeF, detF, isFinite, cholesky}
 use Rattle.definitions.specs.Symmetrization.{conventionalBasis, newBasis, meanMetric, factorFails, basisOr, latticeFails, symmetrizedBasis, deformation}
+use Rattle.definitions.specs.Limits.{notSome, inRange, within, notUnimodular, badCopies}
 use Rattle.math_real.specs.Rows.{negateThirdRow, all-finite}
 use Rattle.math_factor.specs.Factor.{HandedBack, isSome, orZeros}
 use Rattle.symmetrize_lattice.specs.Lattice.{deforms, ifAccepted}
-
--- ---- tests
-
-pub neither : (a b : Bool) → (not a && not b) ≡ not (a || b)
-neither true b = refl
-neither false b = refl
-
-pub each-of-three : (a b c : Bool) → (a && b && c) ≡ not (not a || not b || not c)
-each-of-three true true true = refl
-each-of-three true true false = refl
-each-of-three true false c = refl
-each-of-three false b c = refl
-
-without : (a b : Bool) → (not a && b) ≡ not (a || not b)
-without true b = refl
-without false true = refl
-without false false = refl
-
--- a count that is not refused
-pub few : (n : ℕ) → notSome n ≡ false → n ≤ 96
-few n e = ltb-false 96 n (right (eqb n 0) (ltb 96 n) e)
-  where
-    right : (a b : Bool) → (a || b) ≡ false → b ≡ false
-    right true b e = absurd (subst T e tt)
-    right false b e = e
 
 -- ---- sums
 

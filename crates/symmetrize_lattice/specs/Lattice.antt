@@ -9,27 +9,12 @@ use Rattle.definitions.specs.Real.{RealMatrix, zeroF, real, mulF, transposeF, s
 use Rattle.definitions.specs.Symmetrization.{conventionalBasis, symmetrizedBasis}
 use Rattle.math_real.specs.Rows.{allFinite}
 
--- ---- the answer
-
 abbrev pub zeros : RealMatrix
 zeros = mat (λ i j. zeroF)
 
 -- the matrix of an accepted call; after a refusal "all lent output is zero"
 abbrev pub ifAccepted : Verdict → RealMatrix → RealMatrix
 ifAccepted v m = lentValue zeros m v
-
--- the symmetrised conventional basis of the lattice l under the rotations rs
-abbrev pub newOf : RealMatrix → Matrix → Matrix → List Matrix → RealMatrix
-newOf l t c rs = symmetrizedBasis (conventionalBasis l t c) rs
-
--- "The primitive basis is the new basis times C⁻¹; the listed basis is the primitive one times C"
-abbrev pub primitiveOf : RealMatrix → Matrix → Matrix → List Matrix → RealMatrix
-primitiveOf l t c rs = mulF (newOf l t c rs) (inverseOfC c)
-
-abbrev pub listedOf : RealMatrix → Matrix → Matrix → List Matrix → RealMatrix
-listedOf l t c rs = mulF (primitiveOf l t c rs) (real c)
-
--- ---- the parts
 
 -- (RᵀG)R
 abbrev pub turned : RealMatrix → Matrix → RealMatrix

@@ -1,11 +1,16 @@
-// The lattice symmetrised under the conventional rotations (moyo's `symmetrize_lattice` of symmetrize/symmetrization.rs), with the lattice's part of base/transformation.rs.
-use base_checks::all_in_range;
-use base_checks::good_copies;
-use base_checks::in_range;
-use base_checks::is_some_count;
-use base_checks::lattice_within;
-use base_checks::unimodular;
+// The lattice symmetrised under the conventional rotations (moyo's `symmetrize_lattice` of
+// symmetrize/symmetrization.rs), with the lattice's part of base/transformation.rs.
+use checks::all_in_range;
+use checks::good_copies;
+use checks::in_range;
+use checks::is_some_count;
+use checks::lattice_within;
+use checks::unimodular;
+use definitions::Basis;
+use definitions::Linear;
+use definitions::Rotation;
 use definitions::Verdict;
+use definitions::refusal;
 use math_factor::cholesky;
 use math_real::inverse;
 use math_real::matrix;
@@ -16,30 +21,32 @@ ghost use mathlib.Core.Bool.{not, cond, _||_};
 ghost use lib.ListN.{length};
 ghost use Rattle.definitions.specs.Lists.{all};
 ghost use Rattle.definitions.specs.Refusal.{Checked};
-ghost use Rattle.definitions.specs.Standardize.{inRange};
-ghost use Rattle.definitions.specs.Calls.{latticeConditions, notUnimodular, badCopies};
+ghost use Rattle.definitions.specs.Calls.{latticeConditions, LatticePromise};
 ghost use Rattle.definitions.specs.Symmetrization as Symmetrization;
-ghost use Rattle.definitions.specs.Symmetrization.{conventionalBasis, meanMetric, newBasis, latticeFails, symmetrizedBasis};
-ghost use Rattle.symmetrize_lattice.specs.Lattice.{ifAccepted, newOf, primitiveOf, listedOf, zeros, turned, totalMetric, deforms};
+ghost use Rattle.definitions.specs.Symmetrization.{conventionalBasis, meanMetric, newBasis};
+ghost use Rattle.definitions.specs.Symmetrization.{latticeFails, symmetrizedBasis, newOf};
+ghost use Rattle.definitions.specs.Limits.{inRange, notUnimodular, badCopies};
+ghost use Rattle.symmetrize_lattice.specs.Lattice.{ifAccepted};
+ghost use Rattle.symmetrize_lattice.specs.Lattice.{zeros, turned, totalMetric, deforms};
 
-const ZEROS: [[f64; 3]; 3] = [[0.0, 0.0, 0.0], [0.0, 0.0, 0.0], [0.0, 0.0, 0.0]];
+const ZEROS: Basis = [[0.0, 0.0, 0.0], [0.0, 0.0, 0.0], [0.0, 0.0, 0.0]];
 
 // the basis of columns l times T, then C
-fn conventional_basis(l: [[f64; 3]; 3], t: [[i8; 3]; 3], c: [[i8; 3]; 3]) -> [[f64; 3]; 3]
+fn conventional_basis(l: Basis, t: Linear, c: Linear) -> Basis
     ensures { λ r. ⌜ r ≡ conventionalBasis l t c ⌝ }
 {
     let p = matrix::product(l, whole::real(t));
     matrix::product(p, whole::real(c))
 }
 
-fn metric(b: [[f64; 3]; 3]) -> [[f64; 3]; 3]
+fn metric(b: Basis) -> Basis
     ensures { λ r. ⌜ r ≡ Symmetrization.metric b ⌝ }
 {
     matrix::product(matrix::transpose(b), b)
 }
 
 // (RᵀG)R
-fn turned_metric(g: [[f64; 3]; 3], rotation: [[i8; 3]; 3]) -> [[f64; 3]; 3]
+fn turned_metric(g: Basis, rotation: Rotation) -> Basis
     ensures { λ r. ⌜ r ≡ turned g rotation ⌝ }
 {
     let r = whole::real(rotation);
@@ -47,7 +54,7 @@ fn turned_metric(g: [[f64; 3]; 3], rotation: [[i8; 3]; 3]) -> [[f64; 3]; 3]
     matrix::product(p, r)
 }
 
-fn total_metric(g: [[f64; 3]; 3], rotations: &[[[i8; 3]; 3]]) -> [[f64; 3]; 3]
+fn total_metric(g: Basis, rotations: &[Rotation]) -> Basis
     ensures { λ r. ⌜ r ≡ totalMetric g (now (rotations .entry)) ⌝ }
 {
     let mut total = ZEROS;
@@ -62,7 +69,7 @@ fn total_metric(g: [[f64; 3]; 3], rotations: &[[[i8; 3]; 3]]) -> [[f64; 3]; 3]
     total
 }
 
-fn mean_metric(old: [[f64; 3]; 3], rotations: &[[[i8; 3]; 3]]) -> [[f64; 3]; 3]
+fn mean_metric(old: Basis, rotations: &[Rotation]) -> Basis
     requires { ⌜ length (now rotations) ≤ 96 ⌝ }
     ensures { λ r. ⌜ r ≡ meanMetric old (now (rotations .entry)) ⌝ }
 {
@@ -72,7 +79,7 @@ fn mean_metric(old: [[f64; 3]; 3], rotations: &[[[i8; 3]; 3]]) -> [[f64; 3]; 3]
 }
 
 // the transposed factor, its third row negated if the old basis is left-handed
-fn new_basis(old: [[f64; 3]; 3], factor: [[f64; 3]; 3]) -> [[f64; 3]; 3]
+fn new_basis(old: Basis, factor: Basis) -> Basis
     ensures { λ r. ⌜ r ≡ newBasis old factor ⌝ }
 {
     let upper = matrix::transpose(factor);
@@ -83,7 +90,7 @@ fn new_basis(old: [[f64; 3]; 3], factor: [[f64; 3]; 3]) -> [[f64; 3]; 3]
     upper
 }
 
-fn good_deformation(old: [[f64; 3]; 3], new: [[f64; 3]; 3]) -> bool
+fn good_deformation(old: Basis, new: Basis) -> bool
     ensures { λ r. ⌜ r ≡ deforms old new ⌝ }
 {
     let d = inverse::determinant(old);
@@ -94,7 +101,7 @@ fn good_deformation(old: [[f64; 3]; 3], new: [[f64; 3]; 3]) -> bool
 }
 
 // False, and zeros, where 12 applies.
-fn symmetrized(old: [[f64; 3]; 3], rotations: &[[[i8; 3]; 3]], new: &mut [[f64; 3]; 3]) -> bool
+fn symmetrized(old: Basis, rotations: &[Rotation], new: &mut Basis) -> bool
     requires { ⌜ length (now rotations) ≤ 96 ⌝ }
     ensures { λ r. ⌜ r ≡ not (latticeFails old (now (rotations .entry))) ⌝ }
     ensures { λ r. ⌜ now (new .exit) ≡ cond r (symmetrizedBasis old (now (rotations .entry))) zeros ⌝ }
@@ -112,7 +119,7 @@ fn symmetrized(old: [[f64; 3]; 3], rotations: &[[[i8; 3]; 3]], new: &mut [[f64; 
     false
 }
 
-fn entries_in_range(t: [[i8; 3]; 3], c: [[i8; 3]; 3], rotations: &[[[i8; 3]; 3]]) -> bool
+fn entries_in_range(t: Linear, c: Linear, rotations: &[Rotation]) -> bool
     ensures { λ r. ⌜ r ≡ not (not (inRange t) || not (inRange c) || not (all inRange (now (rotations .entry)))) ⌝ }
 {
     let x = in_range(t);
@@ -121,7 +128,7 @@ fn entries_in_range(t: [[i8; 3]; 3], c: [[i8; 3]; 3], rotations: &[[[i8; 3]; 3]]
     x & y & z
 }
 
-fn good_determinants(t: [[i8; 3]; 3], c: [[i8; 3]; 3]) -> bool
+fn good_determinants(t: Linear, c: Linear) -> bool
     ensures { λ r. ⌜ r ≡ not (notUnimodular t || badCopies c) ⌝ }
 {
     let x = unimodular(t);
@@ -130,37 +137,31 @@ fn good_determinants(t: [[i8; 3]; 3], c: [[i8; 3]; 3]) -> bool
 }
 
 // the verdict, and the new conventional basis
-fn new_lattice(
-    l: [[f64; 3]; 3],
-    t: [[i8; 3]; 3],
-    c: [[i8; 3]; 3],
-    rotations: &[[[i8; 3]; 3]],
-    new: &mut [[f64; 3]; 3],
-) -> Verdict
+fn new_lattice(l: Basis, t: Linear, c: Linear, rotations: &[Rotation], new: &mut Basis) -> Verdict
     ensures { λ v. ⌜ Checked (latticeConditions l t c (now (rotations .entry))) v ⌝ }
     ensures { λ v. ⌜ now (new .exit) ≡ ifAccepted v (newOf l t c (now (rotations .entry))) ⌝ }
 {
     *new = ZEROS;
     if !is_some_count(rotations.len()) {
-        return Verdict::Refused(2);
+        return Verdict::Refused(refusal::COUNTS);
     }
     if !entries_in_range(t, c, rotations) {
-        return Verdict::Refused(3);
+        return Verdict::Refused(refusal::MATRIX_ENTRY);
     }
     if !lattice_within(l) {
-        return Verdict::Refused(4);
+        return Verdict::Refused(refusal::FLOAT_RANGE);
     }
     if !good_determinants(t, c) {
-        return Verdict::Refused(7);
+        return Verdict::Refused(refusal::DETERMINANT);
     }
     let old = conventional_basis(l, t, c);
     if !symmetrized(old, rotations, new) {
-        return Verdict::Refused(12);
+        return Verdict::Refused(refusal::LATTICE);
     }
     Verdict::Accepted
 }
 
-fn if_accepted(v: Verdict, m: [[f64; 3]; 3]) -> [[f64; 3]; 3]
+fn if_accepted(v: Verdict, m: Basis) -> Basis
     ensures { λ r. ⌜ r ≡ ifAccepted v m ⌝ }
 {
     match v {
@@ -171,18 +172,17 @@ fn if_accepted(v: Verdict, m: [[f64; 3]; 3]) -> [[f64; 3]; 3]
 
 // `new` becomes the conventional basis, `primitive` it times C⁻¹ and `listed` that times C; all zero after a refusal.
 pub fn symmetrize_lattice(
-    l: [[f64; 3]; 3],
-    t: [[i8; 3]; 3],
-    c: [[i8; 3]; 3],
-    rotations: &[[[i8; 3]; 3]],
-    new: &mut [[f64; 3]; 3],
-    primitive: &mut [[f64; 3]; 3],
-    listed: &mut [[f64; 3]; 3],
+    l: Basis,
+    t: Linear,
+    c: Linear,
+    rotations: &[Rotation],
+    new: &mut Basis,
+    primitive: &mut Basis,
+    listed: &mut Basis,
 ) -> Verdict
-    ensures checked { λ v. ⌜ Checked (latticeConditions l t c (now (rotations .entry))) v ⌝ }
-    ensures new { λ v. ⌜ now (new .exit) ≡ ifAccepted v (newOf l t c (now (rotations .entry))) ⌝ }
-    ensures primitive { λ v. ⌜ now (primitive .exit) ≡ ifAccepted v (primitiveOf l t c (now (rotations .entry))) ⌝ }
-    ensures listed { λ v. ⌜ now (listed .exit) ≡ ifAccepted v (listedOf l t c (now (rotations .entry))) ⌝ }
+    ensures { λ v. ⌜
+        LatticePromise l t c (now (rotations .entry))
+        (now (new .exit)) (now (primitive .exit)) (now (listed .exit)) v ⌝ }
 {
     let verdict = new_lattice(l, t, c, rotations, new);
     let basis = *new;

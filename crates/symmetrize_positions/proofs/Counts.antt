@@ -5,20 +5,10 @@ use mathlib.Core.Bool.{Bool, false, not, _||_}
 use native.Mathlib.Nat.{mul-le-mul}
 use lib.Dec.{eqb, ltb}
 use borrow.Author.Tests.{ltb-false, eqb-true, not-false}
-use Rattle.definitions.specs.Standardize.{notSome}
-use Rattle.definitions.specs.Calls.{tooManySites}
-use Rattle.base_permutation.specs.Tests.{neither-left, neither-right}
+use Rattle.definitions.specs.Limits.{notSome, tooManySites}
 use Rattle.symmetrize_positions.specs.Targets.{Counted}
-
--- tests in a row: the first fails, and the answer is the second's
-pub as-second : (a b r : Bool) → a ≡ false → r ≡ b → r ≡ (a || b)
-as-second a b r e f = rw e f
-
-pub few : (k : ℕ) → notSome k ≡ false → k ≤ 96
-few k e = ltb-false 96 k (neither-right (eqb k 0) (ltb 96 k) e)
-
-pub product-small : (n k : ℕ) → notSome k ≡ false → n ≤ 256 → k * n ≤ 24576
-product-small n k e h = mul-le-mul (few k e) h
+use Rattle.laws.specs.Limits.{few}
+use Rattle.laws.specs.Tests.{neither-left, neither-right}
 
 module _ (n k v m : ℕ) where
   abbrev pub bad : Bool

@@ -1,5 +1,6 @@
 -- Laws of the loops.
 pub mod Search
+pub mod Making
 pub mod Sums
 pub mod Cells
 pub mod Counts

@@ -9,7 +9,8 @@ use lib.Ieee.{Float}
 use Rattle.definitions.specs.declared.Position.{Position}
 use Rattle.definitions.specs.Matrix.{Matrix, inverse}
 use Rattle.definitions.specs.Real.{RealMatrix, real, applyF, subP}
-use Rattle.definitions.specs.Calls.{positionFrom, transformedCells}
+use Rattle.definitions.specs.Calls.{transformedCells}
+use Rattle.definitions.specs.Lent.{positionFrom}
 use Rattle.symmetrize_positions.specs.Targets.{moved, movedCells}
 
 back : (m : RealMatrix) (shift : Position) (ps : List (List Float)) → map positionFrom (moved m shift ps) ≡ map (λ v. applyF m (subP (positionFrom v) shift)) ps

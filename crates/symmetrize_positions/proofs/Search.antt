@@ -1,15 +1,17 @@
--- Searches over the sites and over the permutations: what is asked of all is asked of those not yet seen.
+-- A search over the permutations: what is asked of all is asked of those not yet seen.
 use Prim.Native.Nat.{ℕ, suc, _+_, _-_, _*_, _≤_, _<_}
-use mathlib.Core.Path.{_≡_, sym, ap, _∙_}
+use mathlib.Core.Path.{_≡_, sym, ap, _∙_, subst}
 use mathlib.Core.Bool.{Bool, true, false}
 use mathlib.Core.List.{List, _∷_}
-use mathlib.Core.Option.{none, some}
 use native.Mathlib.Omega.{arith}
-use lib.Dec.{eqb}
 use lib.ListN.{length, take, drop, length-take, length-drop}
-use borrow.Author.Tests.{eq-eqb, ne-eqb}
-use Rattle.definitions.specs.Lists.{all, first, upFrom, upTo}
-use Rattle.definitions.specs.Permutation.{image, inverseImage, isPermutation, permutationAt}
+use borrow.Author.Tests.{not-false}
+use Rattle.definitions.specs.Lists.{all, upFrom, upTo}
+use Rattle.laws.specs.Lists.{upTo-at, below-upTo}
+use Rattle.definitions.specs.Permutation.{isPermutation, permutationAt}
+use Rattle.definitions.specs.Lent.{badImages}
+use Rattle.symmetrize_positions.specs.Targets.{Permuted}
+use Rattle.laws.specs.Counting.{all-at}
 
 next : (n j : ℕ) → j < n → upFrom j (n - j) ≡ j ∷ upFrom (j + 1) (n - (j + 1))
 unfolding upFrom
@@ -20,38 +22,6 @@ next n j h =
 
 none-before : (n : ℕ) → upTo n ≡ upFrom 0 (n - 0)
 none-before n = let e : n - 0 ≡ n = omega arith in rw e
-
--- ---- an inverse image
-
-module _ (p : List ℕ) (i : ℕ) where
-  abbrev fits : ℕ → Bool
-  fits j = eqb (image p j) i
-
-  -- the first of the sites from j on is the first of all
-  abbrev pub Unseen : ℕ → Type 0
-  Unseen j = first fits (upTo (length p)) ≡ first fits (upFrom j (length p - j))
-
-  pub none-seen : Unseen 0
-  none-seen = ap (first fits) (none-before (length p))
-
-  pub seen : (j : ℕ) → Unseen j → j < length p → (image p j ≡ i → ⊥) → Unseen (j + 1)
-  unfolding first
-  seen j u h n = u ∙ rw (next (length p) j h, first, ne-eqb (image p j) i n)
-
-  pub found : (j : ℕ) → Unseen j → j < length p → image p j ≡ i → j ≡ inverseImage p i
-  unfolding first inverseImage
-  found j u h e =
-      let f : first fits (upTo (length p)) ≡ some j = u ∙ rw (next (length p) j h, first, eq-eqb (image p j) i e) in
-      rw (inverseImage, f)
-
-  pub missed : (j : ℕ) → Unseen j → length p ≤ j → 0 ≡ inverseImage p i
-  unfolding first inverseImage upFrom
-  missed j u h =
-      let e : length p - j ≡ 0 = omega arith in
-      let f : first fits (upTo (length p)) ≡ none = u ∙ rw (e, upFrom, first) in
-      rw (inverseImage, f)
-
--- ---- a test of all
 
 module _ (t : ℕ → Bool) (n : ℕ) where
   abbrev pub Untested : ℕ → Type 0
@@ -81,3 +51,7 @@ part-is images n o at e h =
     let w : at + n - at ≡ n = omega arith in
     let l : length (take n (drop at images)) ≡ n = simp (length-take, length-drop) (omega arith) in
     rw (w, l, e)
+
+pub all-permuted : (n k : ℕ) (images : List ℕ) → badImages n k images ≡ false → Permuted n k images
+all-permuted n k images e o h =
+    subst (λ x. isNth n images x ≡ true) (upTo-at k o h) (all-at (isNth n images) 0 (upTo k) (not-false _ e) o (below-upTo k o h))

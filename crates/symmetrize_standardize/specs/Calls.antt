@@ -1,28 +1,46 @@
--- The whole call, on a job's bytes and on a job's lists, as the calls that demand 3 speaks of.
+-- The whole call, on a job's bytes and on a job's lists, as the calls that demand 3 speaks of: what their promises
+-- allow to be told.
 use Prim.Native.Nat.{ℕ}
 use mathlib.Core.Path.{_≡_}
 use mathlib.Core.List.{List}
-use Rattle.definitions.specs.Job.{Parts, Job, IsJob, jobOf}
-use Rattle.definitions.specs.Standardize.{jobConditions, bytesConditions, JobReturns, BytesReturn}
+use lib.Dec.{T}
+use lib.Pow.{areBytes}
+use Rattle.definitions.specs.Job.{Parts, IsJob, jobOf}
+use Rattle.definitions.specs.Standardize.{IsAnswer, bytesConditions, OfParts}
+use Rattle.definitions.specs.WholeCalls.{Given, jobFrom, listsConditions, AnswerCells, roomsOf, WholeAnswered}
 use Rattle.definitions.specs.Demand.{WholeCall}
 use Rattle.math_matrix.specs.Laws.{Three}
 
--- on bytes, with the rooms of the lent lists
+-- bytes, as their type says, and the lent lists
+pub record BytesArguments : Type 0 where
+  pub bytes : List ℕ
+  pub are-bytes : T (areBytes bytes)
+  pub entry : AnswerCells
+
 abbrev pub bytesCall : WholeCall
 bytesCall =
     record {
-      Arguments = List ℕ × List ℕ;
-      conditions = λ x. bytesConditions (x .0) (x .1);
-      IsJob = λ x j. (p : Parts) × IsJob (x .0) p × (jobOf p ≡ j);
-      Promises = λ x o. BytesReturn (x .0) (x .1) o;
+      Arguments = BytesArguments;
+      conditions = λ x. bytesConditions (x .bytes) (roomsOf (x .entry));
+      IsJob = λ x j. (p : Parts) × IsJob (x .bytes) p × (jobOf p ≡ j);
+      Promises = λ x o.
+          (exit : AnswerCells)
+          × WholeAnswered (bytesConditions (x .bytes) (roomsOf (x .entry))) (λ a. OfParts (x .bytes) (λ p. IsAnswer (jobOf p) a)) (x .entry) exit o;
     }
 
--- on a job's lists, where C has three rows of three
-abbrev pub jobCall : WholeCall
-jobCall =
+-- a job's lists, where C has three rows of three, as its type says, and the lent lists
+pub record ListsArguments : Type 0 where
+  pub given : Given
+  pub shape : Three (given .c)
+  pub entry : AnswerCells
+
+abbrev pub listsCall : WholeCall
+listsCall =
     record {
-      Arguments = Job × List ℕ;
-      conditions = λ x. jobConditions (x .0) (x .1);
-      IsJob = λ x j. Three (x .0 .c) × (x .0 ≡ j);
-      Promises = λ x o. JobReturns (x .0) (x .1) o;
+      Arguments = ListsArguments;
+      conditions = λ x. listsConditions (x .given) (roomsOf (x .entry));
+      IsJob = λ x j. jobFrom (x .given) ≡ j;
+      Promises = λ x o.
+          (exit : AnswerCells)
+          × WholeAnswered (listsConditions (x .given) (roomsOf (x .entry))) (IsAnswer (jobFrom (x .given))) (x .entry) exit o;
     }

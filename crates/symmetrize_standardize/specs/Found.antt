@@ -1,6 +1,8 @@
--- The work on a job that is past the refusals before 13: the permutations are aligned, the candidates have spaces and the sites have labels.
+-- The work on a job that is past the refusals before 13: the permutations are aligned, the candidates have spaces and
+-- the sites have
+-- labels.
 use Prim.Native.Nat.{ℕ, zero, suc, _<_}
-use mathlib.Core.Path.{_≡_, refl, sym, subst}
+use mathlib.Core.Path.{_≡_, refl, sym, subst, ap, _∙_}
 use mathlib.Core.Bool.{Bool, true, false, not, _||_}
 use mathlib.Core.List.{List, [], _∷_, _++_, reverse, reverseAux, List·Memᴰ, List·Memᴰ·head, List·Memᴰ·tail, List·Memᴰ·cases-cons, List·Memᴰ·not-nil}
 use mathlib.Core.Option.{Option, none, some, Option·none-ne-some, Option·some-injective}
@@ -8,44 +10,36 @@ use mathlib.Core.Logic.{_⊎_, inl, inr, ⊎-elim}
 use native.Mathlib.Omega.{arith}
 use lib.ListN.{length, length-map, replicate}
 use lib.Dec.{T, ltb, lt→ltb, eqb}
-use lib.IntN.{natAbs}
-use Rattle.definitions.specs.Lists.{all, any, first, each, Some, upTo}
-use Rattle.definitions.specs.ListLaws.{all-cons, all-head, all-tail, all-mem, from-upTo, in-upTo}
-use Rattle.definitions.specs.Refusal.{Applies, upto, precedence, Past, orbit-fit, site-image, coordinates, determinant, target-rotation}
-use Rattle.definitions.specs.Matrix.{Matrix, det}
+use borrow.Author.Tests.{eqb-false}
+use Rattle.definitions.specs.declared.Position.{Position}
+use Rattle.definitions.specs.Lists.{all, any, first, each, upTo}
+use Rattle.definitions.specs.Refusal.{upto, precedence, Past, orbit-fit}
+use Rattle.definitions.specs.Limits.{copies, badCopies, notUnimodular}
+use Rattle.definitions.specs.Matrix.{Matrix}
 use Rattle.definitions.specs.Snf.{Run}
-use Rattle.definitions.specs.Coordinates.{Triplet, Reads, Readable, rows, originOf}
-use Rattle.definitions.specs.Job.{Job, Candidate}
+use Rattle.definitions.specs.Job.{Job}
 use Rattle.definitions.specs.Permutation.{isPermutation, permutationAt}
-use Rattle.definitions.specs.Transformation.{operationFor, rotationAbsent, targetAbsent, rotationsOf, isNone, permutationOr, alignedTo, aligned}
-use Rattle.definitions.specs.Cell.{siteMapping, copies}
-use Rattle.definitions.specs.Wyckoff.{Space, AreSpaces, Found}
-use Rattle.definitions.specs.Standardize.{siteCount, BadCoordinates, jobConditions, letteringOf, Work}
+use Rattle.definitions.specs.Transformation.{operationFor, rotationAbsent, targetAbsent, rotationsOf, isNone, permutationOr, alignedTo, transformPosition, transformed, aligned}
+use Rattle.definitions.specs.Symmetrization.{symmetrizedAt, symmetrized, primitivePositions}
+use Rattle.definitions.specs.Cell.{siteMapping}
+use Rattle.definitions.specs.Wyckoff.{Found}
+use Rattle.definitions.specs.Standardize.{siteCount, BadCoordinates, badImage, Rooms, jobConditions, letteringOf, Work}
+use Rattle.laws.specs.Tests.{passed, off, neither-left, neither-right}
+use Rattle.laws.specs.Lists.{all-cons, all-head, all-tail, all-mem, from-upTo, in-upTo, length-upFrom}
+use Rattle.laws.specs.Order.{FailBefore, past-before}
 use Rattle.base_cell.specs.Maps.{Permutations, permutations-all}
 use Rattle.base_cell.specs.Labels.{labelsBy, labels-computed}
 use Rattle.base_cell.specs.Classes.{classes}
 use Rattle.math_snf_laws.specs.Runs.{every}
-use Rattle.data_wyckoff.specs.Reading.{reads?}
-use Rattle.symmetrize_standardize.specs.Order.{among, none-of}
+use Rattle.symmetrize_wyckoff.specs.Spaces.{spaces-found}
 
--- ---- spaces
-
-read : (text : List ℕ) → ((Readable text → ⊥) → ⊥) → (t : Triplet) × Reads text t
-read text h = by (reads? text)
-  where
-    by : Dec ((t : Triplet) × Reads text t) → (t : Triplet) × Reads text t
-    by (yes r) = r
-    by (no n) = absurd (h (λ r. n (r .0, r .1)))
-
-spaces : (ws : List Candidate) → (BadCoordinates ws → ⊥) → (ss : List Space) × AreSpaces ws ss
-unfolding Some AreSpaces
-spaces [] h = ([], tt)
-spaces (w ∷ ws) h = with-first (read (w .text) (λ n. h (inl n))) (spaces ws (λ s. h (inr s)))
-  where
-    with-first : (t : Triplet) × Reads (w .text) t → (ss : List Space) × AreSpaces ws ss → (ss : List Space) × AreSpaces (w ∷ ws) ss
-    with-first (t, r) (ss, a) =
-        let d = every (rows t) in
-        (record { matrix = rows t; shift = originOf t; snf = d .third } ∷ ss, (record { triplet = t; reads = r; matrix = refl; shift = refl; run = d; snf = refl }, a))
+-- a job's primitive positions are one a site
+pub positions-count : (j : Job) → length (primitivePositions j) ≡ siteCount j
+unfolding primitivePositions symmetrized transformed
+positions-count j =
+    length-map (upTo (length (transformed j))) (symmetrizedAt (transformed j) (j .targets) (aligned j))
+    ∙ length-upFrom 0 (length (transformed j))
+    ∙ length-map (j .sites) (λ s. transformPosition (j .t) (j .shift) (s .position))
 
 -- ---- permutations
 
@@ -112,45 +106,33 @@ mapping-pass n m = all-each (λ i. ltb i n) (λ i. replicate m i) (upTo n) (λ i
 
 -- ---- past the refusals before 13
 
-or-middle : (a b c : Bool) → T b → T (a || b || c)
-or-middle true b c h = tt
-or-middle false true c h = tt
-or-middle false false c h = absurd h
-
-passed : (b : Bool) → (T (not b) → ⊥) → T b
-passed true h = tt
-passed false h = absurd (h tt)
-
-module _ (j : Job) (rooms : List ℕ) (past : Past orbit-fit (jobConditions j rooms)) where
-  before : (k : ℕ) → T (among (upto orbit-fit precedence) k) → Applies (jobConditions j rooms) k → ⊥
-  before k m a = none-of (jobConditions j rooms) (upto orbit-fit precedence) k m past a
+module _ (j : Job) (rooms : Rooms) (past : Past orbit-fit (jobConditions j rooms)) where
+  before : FailBefore orbit-fit (jobConditions j rooms)
+  before = past-before orbit-fit (jobConditions j rooms) past
 
   -- operation k's images are a permutation
   abbrev permutes : ℕ → Bool
   permutes k = isPermutation (siteCount j) (permutationAt (siteCount j) (j .images) k)
 
   images-pass : T (all permutes (upTo (length (j .operations))))
-  unfolding Applies any upto precedence
-  images-pass = passed (all permutes (upTo (length (j .operations)))) (λ h. before site-image tt (inl h))
+  unfolding FailBefore any upto precedence
+  images-pass = passed (all permutes (upTo (length (j .operations)))) (before .1 .1 .1 .0 tt)
 
   readable : BadCoordinates (j .candidates) → ⊥
-  unfolding Applies any upto precedence
-  readable h = before coordinates tt (inl h)
+  unfolding FailBefore any upto precedence
+  readable = before .1 .1 .1 .1 .0 tt
 
   targets-present : T (targetAbsent j) → ⊥
-  unfolding Applies any upto precedence
-  targets-present h = before target-rotation tt (inl h)
+  unfolding FailBefore any upto precedence
+  targets-present = before .1 .1 .1 .1 .1 .1 .1 .1 .1 .0 tt
 
   -- "of C zero" is refused
   pub copies-positive : 0 < copies (j .c)
-  unfolding Applies any upto precedence
+  unfolding FailBefore any upto precedence
   copies-positive =
-      not-zero (copies (j .c))
-      (λ h. before determinant tt (inl (or-middle (not (eqb (natAbs (det (j .t))) 1)) (eqb (copies (j .c)) 0) (ltb 64 (copies (j .c))) h)))
-    where
-      not-zero : (n : ℕ) → (T (eqb n 0) → ⊥) → 0 < n
-      not-zero zero h = absurd (h tt)
-      not-zero (suc n) h = omega arith
+      let bad = neither-right (notUnimodular (j .t)) (badCopies (j .c)) (off _ (before .1 .1 .1 .1 .1 .0 tt)) in
+      let some : copies (j .c) ≡ 0 → ⊥ = eqb-false _ _ (neither-left (eqb (copies (j .c)) 0) _ bad) in
+      omega arith
 
   aligned-all : T (all (isPermutation (siteCount j)) (aligned j))
   aligned-all = aligned-pass (siteCount j) (j .t) (rotationsOf (j .operations)) (j .images) perm (rotationsOf (j .targets)) targets-present
@@ -166,7 +148,7 @@ module _ (j : Job) (rooms : List ℕ) (past : Past orbit-fit (jobConditions j ro
   -- what is found of the design, with any run of C
   pub design-found : (r : Run (j .c)) → Found (letteringOf j r)
   design-found r =
-      let s = spaces (j .candidates) readable in
+      let s = spaces-found (j .candidates) readable in
       record {
         spaces = s .0;
         are-spaces = s .1;

@@ -1,14 +1,17 @@
--- What is found of a design has one value at the most: the spaces of its candidates, its labels, and so its sites with their fits.
+-- What is found of a design has one value at the most: the spaces of its candidates, its labels, and so its sites with
+-- their fits.
 use Prim.Native.Nat.{ℕ}
-use mathlib.Core.Path.{_≡_, refl, sym, ap, ap₂, _∙_, pathJ}
+use mathlib.Core.Path.{_≡_, refl, sym, ap, ap₂, _∙_, pathJ, subst}
 use mathlib.Core.List.{List, [], _∷_}
 use Rattle.definitions.specs.Snf.{Run}
-use Rattle.definitions.specs.SnfLaws.{run-unique}
+use Rattle.math_snf_laws.specs.Unique.{run-unique}
 use Rattle.definitions.specs.Coordinates.{Triplet, rows, originOf}
 use Rattle.definitions.specs.Job.{Candidate}
 use Rattle.definitions.specs.Wyckoff.{Space, IsSpace, AreSpaces, Lettering, Found, sitesOf, choices}
 use Rattle.data_wyckoff.specs.Reading.{read-unique}
-use Rattle.base_cell.specs.Labels.{labels-unique}
+use Rattle.definitions.specs.Orbit.{Labels}
+use Rattle.definitions.specs.Demand.{Alike, JoinTheSame}
+use Rattle.base_cell.specs.Labels.{labels-unique, same-joins-same-labels}
 
 -- the runs of the matrices of equal trees end alike
 same-end : (t u : Triplet) → t ≡ u → (r : Run (rows t)) (s : Run (rows u)) → r .third ≡ s .third
@@ -44,3 +47,21 @@ sites-unique {g} f f′ =
     ap₂ (λ ls ss. record { positions = g .positions; labels = ls; basis = g .basis; choices = choices (g .candidates) ss; symprec = g .symprec })
     (labels-unique (f .are-labels) (f′ .are-labels))
     (spaces-unique (g .candidates) (f .spaces) (f′ .spaces) (f .are-spaces) (f′ .are-spaces))
+
+-- designs that are alike, whose permutations join the same sites
+pub alike-sites : {g g′ : Lettering} → Alike g g′ → JoinTheSame (g .permutations) (g′ .permutations) → (f : Found g) (f′ : Found g′) → sitesOf f ≡ sitesOf f′
+alike-sites {g} {g′} a same f f′ = λ i.
+    record { positions = a .positions i; labels = ls i; basis = a .basis i; choices = choices (a .candidates i) (ss i); symprec = a .symprec i }
+  where
+    ls : f .labels ≡ f′ .labels
+    ls =
+        labels-unique
+        (same-joins-same-labels same (subst (λ m. Labels (g .permutations) m (f .labels)) (a .mapping) (f .are-labels)))
+        (f′ .are-labels)
+
+    ss : f .spaces ≡ f′ .spaces
+    ss = spaces-unique (g′ .candidates) (f .spaces) (f′ .spaces) (subst (λ ws. AreSpaces ws (f .spaces)) (a .candidates) (f .are-spaces)) (f′ .are-spaces)
+
+-- one design
+pub equal-sites : {g g′ : Lettering} → g ≡ g′ → (f : Found g) (f′ : Found g′) → sitesOf f ≡ sitesOf f′
+equal-sites {g} e f f′ = subst (λ h. (k : Found h) → sitesOf f ≡ sitesOf k) e (sites-unique f) f′

@@ -3,17 +3,10 @@ use borrow.Author.Needs.{needs}
 use Rattle.symmetrize_lattice.proofs.if_accepted.Statement.{statement}
 use Rattle.symmetrize_lattice.proofs.if_accepted.Tie as tie
 
-enum-told : tie.Need-enum-told
-enum-told c = search needs
-
-enum-told-2 : tie.Need-enum-told-2
-enum-told-2 c = search needs
-
-returns : tie.Need-returns
-returns c = search needs
-
 returns-2 : tie.Need-returns-2
 returns-2 c = rw (c .enum-told2 .given .1)
 
 pub if-accepted-spec : {M : Type 1} → statement M
-if-accepted-spec = tie.close (tie.spec enum-told enum-told-2 returns returns-2)
+if-accepted-spec =
+    tie.close
+    (tie.spec (λ c. search needs) (λ c. search needs) (λ c. search needs) returns-2)

@@ -7,18 +7,9 @@ use borrow.Author.Needs.{needs}
 use Rattle.symmetrize_lattice.proofs.mean_metric.Statement.{statement}
 use Rattle.symmetrize_lattice.proofs.mean_metric.Tie as tie
 
-metric-requires : tie.Need-metric-requires
-metric-requires c κs = search needs
-
-total-metric-requires : tie.Need-total-metric-requires
-total-metric-requires c κs = search needs
-
 int-to-float-count : tie.Need-int-to-float-count
 unfolding inFloat
 int-to-float-count c = le→leb (length (c .before .before .before .args .rotations .now)) 9007199254740992 (omega arith)
-
-divide-requires : tie.Need-divide-requires
-divide-requires c κs = search needs
 
 returns : tie.Need-returns
 returns c = simp (c .divide .ensures, c .before .before .total-metric .ensures, c .before .before .before .metric .ensures)
@@ -26,4 +17,4 @@ returns c = simp (c .divide .ensures, c .before .before .total-metric .ensures, 
 pub mean-metric-spec : {M : Type 1} → statement M
 mean-metric-spec =
     tie.close
-    (tie.spec metric-requires total-metric-requires int-to-float-count divide-requires returns)
+    (tie.spec (λ c κs. search needs) (λ c κs. search needs) int-to-float-count (λ c κs. search needs) returns)

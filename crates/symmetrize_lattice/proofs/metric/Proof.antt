@@ -3,14 +3,10 @@ use borrow.Author.Needs.{needs}
 use Rattle.symmetrize_lattice.proofs.metric.Statement.{statement}
 use Rattle.symmetrize_lattice.proofs.metric.Tie as tie
 
-transpose-requires : tie.Need-transpose-requires
-transpose-requires c κs = search needs
-
-product-requires : tie.Need-product-requires
-product-requires c κs = search needs
-
 returns : tie.Need-returns
 returns c = simp (c .product .ensures, c .before .transpose .ensures)
 
 pub metric-spec : {M : Type 1} → statement M
-metric-spec = tie.close (tie.spec transpose-requires product-requires returns)
+metric-spec =
+    tie.close
+    (tie.spec (λ c κs. search needs) (λ c κs. search needs) returns)

@@ -4,15 +4,6 @@ use Rattle.symmetrize_lattice.proofs.Laws.{negated, not-negated}
 use Rattle.symmetrize_lattice.proofs.new_basis.Statement.{statement}
 use Rattle.symmetrize_lattice.proofs.new_basis.Tie as tie
 
-transpose-requires : tie.Need-transpose-requires
-transpose-requires c κs = search needs
-
-determinant-requires : tie.Need-determinant-requires
-determinant-requires c κs = search needs
-
-negate-third-row-requires : tie.Need-negate-third-row-requires
-negate-third-row-requires c κs = search needs
-
 returns : tie.Need-returns
 returns c =
     let s = c .before .before .before .before in
@@ -28,4 +19,4 @@ returns-2 c =
 pub new-basis-spec : {M : Type 1} → statement M
 new-basis-spec =
     tie.close
-    (tie.spec transpose-requires determinant-requires negate-third-row-requires returns returns-2)
+    (tie.spec (λ c κs. search needs) (λ c κs. search needs) (λ c κs. search needs) returns returns-2)

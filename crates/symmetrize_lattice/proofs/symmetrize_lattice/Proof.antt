@@ -2,31 +2,11 @@
 use mathlib.Core.Path.{ap, _∙_}
 use borrow.Author.Needs.{needs}
 use Rattle.definitions.specs.Real.{RealMatrix, mulF, real, inverseOfC}
-use Rattle.symmetrize_lattice.specs.Lattice.{ifAccepted, newOf}
+use Rattle.definitions.specs.Symmetrization.{newOf}
+use Rattle.symmetrize_lattice.specs.Lattice.{ifAccepted}
 use Rattle.symmetrize_lattice.proofs.Laws.{same-if}
 use Rattle.symmetrize_lattice.proofs.symmetrize_lattice.Statement.{statement}
 use Rattle.symmetrize_lattice.proofs.symmetrize_lattice.Tie as tie
-
-new-lattice-requires : tie.Need-new-lattice-requires
-new-lattice-requires c κs = search needs
-
-inverse-of-c-requires : tie.Need-inverse-of-c-requires
-inverse-of-c-requires c κs = search needs
-
-product-requires : tie.Need-product-requires
-product-requires c κs = search needs
-
-real-requires : tie.Need-real-requires
-real-requires c κs = search needs
-
-product-requires-2 : tie.Need-product-requires-2
-product-requires-2 c κs = search needs
-
-if-accepted-requires : tie.Need-if-accepted-requires
-if-accepted-requires c κs = search needs
-
-if-accepted-requires-2 : tie.Need-if-accepted-requires-2
-if-accepted-requires-2 c κs = search needs
 
 returns : tie.Need-returns
 returns c =
@@ -39,26 +19,22 @@ returns c =
     let v = n .new-lattice .result in
     let made = newOf (a .l) (a .t) (a .c) (a .rotations .now) in
     let e = n .new-lattice .ensures .1 in
-    let first = p .product .ensures ∙ ap (mulF (n .new-lattice .last .1 .1 .1 .1 .0)) (i .inverse-of-c .ensures) in (
-      n .new-lattice .ensures .0,
-      (
-        e,
-        (
-          c .before .if-accepted .ensures ∙ ap (ifAccepted v) first ∙ same-if (λ m. mulF m (inverseOfC (a .c))) v (n .new-lattice .last .1 .1 .1 .1 .0) made e,
-          c .if-accepted2 .ensures ∙ ap (ifAccepted v) (q .product2 .ensures ∙ ap (mulF (p .product .result)) (r .real .ensures) ∙ ap (λ (m : RealMatrix). mulF m (real (a .c))) first) ∙ same-if (λ m. mulF (mulF m (inverseOfC (a .c))) (real (a .c))) v (n .new-lattice .last .1 .1 .1 .1 .0) made e,
-        ),
-      ),
-    )
+    let m = n .new-lattice .last .1 .1 .1 .1 .0 in
+    let first = p .product .ensures ∙ ap (mulF m) (i .inverse-of-c .ensures) in
+    let second = q .product2 .ensures ∙ ap (mulF (p .product .result)) (r .real .ensures) in
+    record {
+      checked = n .new-lattice .ensures .0;
+      conventional = e;
+      of-primitive =
+          c .before .if-accepted .ensures ∙ ap (ifAccepted v) first ∙ same-if (λ b. mulF b (inverseOfC (a .c))) v m made e;
+      of-listed =
+          c .if-accepted2 .ensures
+          ∙ ap (ifAccepted v) (second ∙ ap (λ (b : RealMatrix). mulF b (real (a .c))) first)
+          ∙ same-if (λ b. mulF (mulF b (inverseOfC (a .c))) (real (a .c))) v m made e;
+    }
 
 pub symmetrize-lattice-spec : {M : Type 1} → statement M
 symmetrize-lattice-spec =
     tie.close
-    (tie.spec
-    new-lattice-requires
-    inverse-of-c-requires
-    product-requires
-    real-requires
-    product-requires-2
-    if-accepted-requires
-    if-accepted-requires-2
-    returns)
+    (tie.spec (λ c κs. search needs) (λ c κs. search needs) (λ c κs. search needs) (λ c κs. search needs)
+    (λ c κs. search needs) (λ c κs. search needs) (λ c κs. search needs) returns)

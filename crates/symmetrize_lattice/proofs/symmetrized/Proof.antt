@@ -5,18 +5,6 @@ use Rattle.symmetrize_lattice.proofs.Laws.{accepts, refuses}
 use Rattle.symmetrize_lattice.proofs.symmetrized.Statement.{statement}
 use Rattle.symmetrize_lattice.proofs.symmetrized.Tie as tie
 
-mean-metric-requires : tie.Need-mean-metric-requires
-mean-metric-requires c κs = search needs
-
-cholesky-requires : tie.Need-cholesky-requires
-cholesky-requires c κs = search needs
-
-new-basis-requires : tie.Need-new-basis-requires
-new-basis-requires c κs = search needs
-
-good-deformation-requires : tie.Need-good-deformation-requires
-good-deformation-requires c κs = search needs
-
 returns : tie.Need-returns
 returns c =
     let d = c .before in
@@ -42,10 +30,5 @@ returns-2 c =
 pub symmetrized-spec : {M : Type 1} → statement M
 symmetrized-spec =
     tie.close
-    (tie.spec
-    mean-metric-requires
-    cholesky-requires
-    new-basis-requires
-    good-deformation-requires
-    returns
+    (tie.spec (λ c κs. search needs) (λ c κs. search needs) (λ c κs. search needs) (λ c κs. search needs) returns
     returns-2)

@@ -20,21 +20,6 @@ abbrev μ-loop : tie.MeasureT-loop
 loop-holds : tie.Need-loop-holds Inv-loop μ-loop
 loop-holds c = (omega arith, refl)
 
-mul-rotation : tie.Need-mul-rotation Inv-loop μ-loop
-mul-rotation c = search needs
-
-shared-slice-copy-out-rotation : tie.Need-shared-slice-copy-out-rotation Inv-loop μ-loop
-shared-slice-copy-out-rotation c = search needs
-
-turned-metric-requires : tie.Need-turned-metric-requires Inv-loop μ-loop
-turned-metric-requires c κs = search needs
-
-sum-requires : tie.Need-sum-requires Inv-loop μ-loop
-sum-requires c κs = search needs
-
-add-i : tie.Need-add-i Inv-loop μ-loop
-add-i c = search needs
-
 loop-less : tie.Need-loop-less Inv-loop μ-loop
 loop-less c = omega arith
 
@@ -57,15 +42,5 @@ returns c =
 pub total-metric-spec : {M : Type 1} → statement M
 total-metric-spec =
     tie.close
-    (tie.spec
-    Inv-loop
-    μ-loop
-    loop-holds
-    mul-rotation
-    shared-slice-copy-out-rotation
-    turned-metric-requires
-    sum-requires
-    add-i
-    loop-less
-    loop-again
-    returns)
+    (tie.spec Inv-loop μ-loop loop-holds (λ c. search needs) (λ c. search needs) (λ c κs. search needs)
+    (λ c κs. search needs) (λ c. search needs) loop-less loop-again returns)

@@ -11,8 +11,7 @@ int-to-float-result : tie.Need-int-to-float-result
 unfolding inFloat
 int-to-float-result c = le→leb (c .before .args .n) (2 ^ 53) (omega arith)
 
-returns : tie.Need-returns
-returns c = search needs
-
 pub count-of-spec : {M : Type 1} → statement M
-count-of-spec = tie.close (tie.spec int-to-float-result returns)
+count-of-spec =
+    tie.close
+    (tie.spec int-to-float-result (search needs))

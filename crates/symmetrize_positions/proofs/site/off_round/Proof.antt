@@ -3,11 +3,10 @@ use borrow.Author.Needs.{needs}
 use Rattle.symmetrize_positions.proofs.site.off_round.Statement.{statement}
 use Rattle.symmetrize_positions.proofs.site.off_round.Tie as tie
 
-round-requires : tie.Need-round-requires
-round-requires c κs = search needs
-
 returns : tie.Need-returns
 returns c = simp (c .round .ensures .0)
 
 pub off-round-spec : {M : Type 1} → statement M
-off-round-spec = tie.close (tie.spec round-requires returns)
+off-round-spec =
+    tie.close
+    (tie.spec (search needs) returns)

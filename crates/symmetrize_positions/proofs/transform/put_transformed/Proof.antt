@@ -5,12 +5,12 @@ use mathlib.Core.List.{[], _++_}
 use native.Mathlib.Omega.{arith}
 use lib.ListN.{length, take, drop, length-set, length-map}
 use borrow.Author.Needs.{needs}
-use Rattle.definitions.specs.ListLaws.{map-at}
+use Rattle.laws.specs.Lists.{map-at}
 use Rattle.definitions.specs.Real.{applyF, subP}
-use Rattle.definitions.specs.Calls.{cellsOf, zeroCells}
-use Rattle.base_permutation.proofs.Filling.{put-step, put-end}
+use Rattle.definitions.specs.Lent.{cellsOf, zeroCells}
 use Rattle.symmetrize_positions.specs.Targets.{moved, movedCells}
 use Rattle.symmetrize_positions.proofs.transform.put_transformed.Statement.{statement}
+use Rattle.laws.specs.Filling.{put-step, put-end}
 use Rattle.symmetrize_positions.proofs.transform.put_transformed.Tie as tie
 
 abbrev Inv-loop : tie.InvT-loop
@@ -21,27 +21,6 @@ abbrev μ-loop : tie.MeasureT-loop
 
 loop-holds : tie.Need-loop-holds Inv-loop μ-loop
 loop-holds c = (omega arith, refl, refl)
-
-position-at-requires : tie.Need-position-at-requires Inv-loop μ-loop
-position-at-requires c κs = search needs
-
-transformed-requires : tie.Need-transformed-requires Inv-loop μ-loop
-transformed-requires c κs = search needs
-
-cells-of-requires : tie.Need-cells-of-requires Inv-loop μ-loop
-cells-of-requires c κs = search needs
-
-mul-t7 : tie.Need-mul-t7 Inv-loop μ-loop
-mul-t7 c = search needs
-
-slice-set-from-held : tie.Need-slice-set-from-held Inv-loop μ-loop
-slice-set-from-held c = search needs
-
-add-i : tie.Need-add-i Inv-loop μ-loop
-add-i c = search needs
-
-loop-less : tie.Need-loop-less Inv-loop μ-loop
-loop-less c = search needs
 
 loop-again : tie.Need-loop-again Inv-loop μ-loop
 loop-again c =
@@ -55,9 +34,6 @@ loop-again c =
       put-step zeroCells (moved (a .m) (a .shift) ps) (a .held .now) (l .held) (l .i) (c .cells-of .result) (l .inv .2) (omega (arith, length-map ps f)) (omega arith) x,
     )
 
-same-length : tie.Need-same-length Inv-loop μ-loop
-same-length c = search needs
-
 returns : tie.Need-returns Inv-loop μ-loop
 returns c =
     let l = c .before .loop in
@@ -68,17 +44,5 @@ returns c =
 pub put-transformed-spec : {M : Type 1} → statement M
 put-transformed-spec =
     tie.close
-    (tie.spec
-    Inv-loop
-    μ-loop
-    loop-holds
-    position-at-requires
-    transformed-requires
-    cells-of-requires
-    mul-t7
-    slice-set-from-held
-    add-i
-    loop-less
-    loop-again
-    same-length
-    returns)
+    (tie.spec Inv-loop μ-loop loop-holds (search needs) (search needs) (search needs) (search needs) (search needs)
+    (search needs) (search needs) loop-again (search needs) returns)

@@ -3,14 +3,10 @@ use borrow.Author.Needs.{needs}
 use Rattle.symmetrize_positions.proofs.transform.transformed.Statement.{statement}
 use Rattle.symmetrize_positions.proofs.transform.transformed.Tie as tie
 
-sub-requires : tie.Need-sub-requires
-sub-requires c κs = search needs
-
-apply-requires : tie.Need-apply-requires
-apply-requires c κs = search needs
-
 returns : tie.Need-returns
 returns c = simp (c .apply .ensures, c .before .sub .ensures)
 
 pub transformed-spec : {M : Type 1} → statement M
-transformed-spec = tie.close (tie.spec sub-requires apply-requires returns)
+transformed-spec =
+    tie.close
+    (tie.spec (search needs) (search needs) returns)
