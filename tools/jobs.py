@@ -1,4 +1,4 @@
-"""Jobs of document 01 as bytes, and what the Rust answers to them. Read by lattice_vectors.py and positions_vectors.py.
+"""Jobs of document 01 as bytes, and what the Rust answers to them. Read by the scripts beside it.
 
 ORACLE is the program that runs moyo's own sources over document 01's stand-in arithmetic.
 """

@@ -1,4 +1,5 @@
--- The outcome of a job, found by deciding its conditions and doing its work, with the evidence that the definitions ask for.
+-- The outcome of a job, found by deciding its conditions and doing its work, with the evidence that the definitions ask
+-- for.
 -- Where something could not be settled in the passes that are let, there is no outcome: nothing is guessed.
 use Prim.Native.Nat.{ℕ, _≤_}
 use native.Mathlib.Nat.{lt-irrefl, lt-of-le-of-lt}
@@ -7,25 +8,30 @@ use mathlib.Core.Bool.{Bool, true, false, not}
 use mathlib.Core.List.{List, [], _∷_, map}
 use mathlib.Core.Option.{Option, none, some, Option·none-ne-some, Option·some-injective}
 use mathlib.Core.Logic.{inl, inr}
-use lib.ListN.{length}
+use lib.ListN.{length, getD}
 use lib.Pow.{areBytes}
 use lib.Dec.{T, leb, ltb, leb→le}
 use lib.IntN.{ℤ}
+use lib.Ieee.{Float}
+use Rattle.definitions.specs.declared.Position.{Position}
+use Rattle.definitions.specs.declared.Match.{Match}
 use Rattle.definitions.specs.Lists.{Some, all}
 use Rattle.definitions.specs.Refusal.{_when_, Applies, NoneOf, precedence, Outcome, accepted, refused, Returns, job-bytes, upto}
-use Rattle.definitions.specs.Matrix.{Matrix}
-use Rattle.definitions.specs.Snf.{Run, allAssigned, small, Leaves, points}
-use Rattle.definitions.specs.SnfLaws.{run-unique, stays}
-use Rattle.definitions.specs.Evaluate.{run}
+use Rattle.definitions.specs.Matrix.{Matrix, identity}
+use Rattle.definitions.specs.Real.{RealMatrix, real}
+use Rattle.definitions.specs.Snf.{Run, allAssigned, Leaves, points}
+use Rattle.math_snf_laws.specs.Unique.{run-unique, stays}
+use Rattle.math_snf_laws.specs.Evaluate.{run}
 use Rattle.definitions.specs.Coordinates.{Triplet, Reads, Readable, spaceless, inRange, rows, originOf}
 use Rattle.definitions.specs.Job.{Parts, Job, Candidate, IsJob, NoJob, jobOf}
 use Rattle.definitions.specs.Permutation.{isPermutation}
 use Rattle.definitions.specs.Transformation.{aligned, targetAbsent}
 use Rattle.definitions.specs.Symmetrization.{primitivePositions, latticeFails, oldBasis}
-use Rattle.definitions.specs.Cell.{siteMapping, copies, listedPositions}
+use Rattle.definitions.specs.Cell.{siteMapping, listedPositions}
 use Rattle.definitions.specs.Orbit.{Labels}
-use Rattle.definitions.specs.Wyckoff.{Space, IsSpace, AreSpaces, Lettering, Found, sitesOf, orbitWithoutFit}
-use Rattle.definitions.specs.Standardize.{siteCount, badCounts, badEntry, badFloat, badImage, badDeterminant, CandidateLeaves, tooManyListed, tooShort, letteringOf, Work, NoFit, Rule, rules, jobConditions, OfJob, bytesConditions, Answer, answerOf, BytesReturn}
+use Rattle.definitions.specs.Wyckoff.{Space, IsSpace, matchOf, AreSpaces, Lettering, Found, sitesOf, orbitWithoutFit}
+use Rattle.definitions.specs.Standardize.{siteCount, listedCount, badCounts, badEntry, badFloat, badImage, badDeterminant, CandidateLeaves, Rooms, tooShort, letteringOf, Work, NoFit, Rule, rules, bytesRules, jobConditions, OfParts, bytesConditions, Answer, answerOf, BytesReturn}
+use Rattle.definitions.specs.Limits.{small, copies, most-bytes, tooManyListed}
 use Rattle.data_wyckoff.specs.Reader.{parse}
 use Rattle.data_wyckoff.specs.Reading.{read-unique, parse-reads, parse-none}
 use Rattle.base_cell.specs.Classes.{classes}
@@ -33,7 +39,7 @@ use Rattle.base_cell.specs.Labels.{labelsBy, labels-computed}
 use Rattle.symmetrize_wyckoff.specs.Unique.{sites-unique}
 use Rattle.job.specs.Decode.{decode, decode-sound, not-a-job, job-unique}
 use Rattle.designs.specs.Computed.{computed}
-use Rattle.definitions.specs.Checked.{Tested, holds, fails, untested, either, TestedAll, Found as Verdict, clear, first, unknown, scan}
+use Rattle.laws.specs.Verdicts.{Tested, holds, fails, untested, either, TestedAll, Found as Verdict, clear, first, unknown, scan}
 
 unfoldable pub test : (b : Bool) → Tested (T b)
 test true = holds tt
@@ -106,8 +112,8 @@ spaces-with w ws none q = none
 spaces-with w ws (some p) none = none
 spaces-with w ws (some p) (some q) = some (p .0 ∷ q .0, (p .1, q .1))
 
-module _ (w : Candidate) where
-  space-of : (t : Triplet) → Reads (w .text) t → Option (Run (rows t)) → Option ((s : Space) × IsSpace (w .text) s)
+module _ (text : List ℕ) where
+  space-of : (t : Triplet) → Reads text t → Option (Run (rows t)) → Option ((s : Space) × IsSpace text s)
   space-of t r none = none
   space-of t r (some d) =
       some (
@@ -115,15 +121,15 @@ module _ (w : Candidate) where
         record { triplet = t; reads = r; matrix = refl; shift = refl; run = d; snf = refl },
       )
 
-  space-from : (o : Option Triplet) → parse (spaceless (w .text)) ≡ o → Option ((s : Space) × IsSpace (w .text) s)
+  space-from : (o : Option Triplet) → parse (spaceless text) ≡ o → Option ((s : Space) × IsSpace text s)
   unfolding space-of
   space-from none e = none
-  space-from (some t) e = space-of t (parse-reads (w .text) t e) (run passes (rows t))
+  space-from (some t) e = space-of t (parse-reads text t e) (run passes (rows t))
 
 unfoldable spaces : (ws : List Candidate) → Option ((ss : List Space) × AreSpaces ws ss)
 unfolding space-from spaces-with AreSpaces
 spaces [] = some ([], tt)
-spaces (w ∷ ws) = spaces-with w ws (space-from w (parse (spaceless (w .text))) refl) (spaces ws)
+spaces (w ∷ ws) = spaces-with w ws (space-from (w .text) (parse (spaceless (w .text))) refl) (spaces ws)
 
 -- labels need permutations, and a mapping into their sites
 labelled : (n : ℕ) (ps : List (List ℕ)) (mapping : List ℕ) (a b : Bool) → all (isPermutation n) ps ≡ a → all (λ i. ltb i n) mapping ≡ b → Option ((ls : List ℕ) × Labels ps mapping ls)
@@ -191,7 +197,7 @@ no-fit j = by-work j (work j)
 
 -- ---- the outcome
 
-decided : (j : Job) (rooms : List ℕ) → TestedAll (jobConditions j rooms)
+decided : (j : Job) (rooms : Rooms) → TestedAll (jobConditions j rooms)
 unfolding TestedAll test some-of negated readable leaves candidate-leaves no-fit either
 decided j rooms = (
   test (badCounts j),
@@ -208,7 +214,7 @@ decided j rooms = (
             (
               either (leaves (j .c)) (some-of CandidateLeaves candidate-leaves (j .candidates)),
               (
-                test (tooManyListed j),
+                test (tooManyListed (listedCount j)),
                 (
                   test (tooShort j rooms),
                   (
@@ -235,25 +241,25 @@ decided j rooms = (
 
 -- what is decided of the job is decided of its bytes
 module _ (bs : List ℕ) (p : Parts) (i : IsJob bs p) where
-  of-job : (P : Job → Type 0) → Tested (P (jobOf p)) → Tested (OfJob bs P)
-  of-job P (holds h) = holds (p, i, h)
-  of-job P (fails n) = fails (λ x. n (subst (λ q. P (jobOf q)) (job-unique bs (x .0) p (x .1) i) (x .2)))
-  of-job P untested = untested
+  of-parts : (P : Parts → Type 0) → Tested (P p) → Tested (OfParts bs P)
+  of-parts P (holds h) = holds (p, i, h)
+  of-parts P (fails n) = fails (λ x. n (subst P (job-unique bs (x .0) p (x .1) i) (x .2)))
+  of-parts P untested = untested
 
-  of-rules : (rs : List Rule) → TestedAll (map (λ r. r .number when r .holds (jobOf p)) rs) → TestedAll (map (λ r. r .number when OfJob bs (r .holds)) rs)
-  unfolding TestedAll of-job
+  of-rules : (rs : List (Rule Parts)) → TestedAll (map (λ r. r .number when r .holds p) rs) → TestedAll (map (λ r. r .number when OfParts bs (r .holds)) rs)
+  unfolding TestedAll of-parts
   of-rules [] ds = tt
-  of-rules (r ∷ rs) ds = (of-job (r .holds) (ds .0), of-rules rs (ds .1))
+  of-rules (r ∷ rs) ds = (of-parts (r .holds) (ds .0), of-rules rs (ds .1))
 
-abbrev Settled : List ℕ → List ℕ → Type 0
+abbrev Settled : List ℕ → Rooms → Type 0
 Settled bs rooms = (o : Outcome Answer) × BytesReturn bs rooms o
 
-no-job : (bs rooms : List ℕ) → NoJob bs → Settled bs rooms
+no-job : (bs : List ℕ) (rooms : Rooms) → NoJob bs → Settled bs rooms
 unfolding Returns Applies NoneOf upto precedence
 no-job bs rooms n = (refused job-bytes, (inl n, tt))
 
-module _ (bs rooms : List ℕ) (p : Parts) (i : IsJob bs p) where
-  pub is-job : length bs ≤ 65536 → NoJob bs → ⊥
+module _ (bs : List ℕ) (rooms : Rooms) (p : Parts) (i : IsJob bs p) where
+  pub is-job : length bs ≤ most-bytes → NoJob bs → ⊥
   is-job h (inl l) = lt-irrefl (length bs) (lt-of-le-of-lt h l)
   is-job h (inr n) = n p i
 
@@ -268,35 +274,92 @@ module _ (bs rooms : List ℕ) (p : Parts) (i : IsJob bs p) where
   settled (first k a n) = some (refused k, (a, n))
   settled unknown = none
 
-  by-length : (b : Bool) → leb (length bs) 65536 ≡ b → Option (Settled bs rooms)
+  by-length : (b : Bool) → leb (length bs) most-bytes ≡ b → Option (Settled bs rooms)
   unfolding settled of-rules decided scan TestedAll
   by-length false e = none
   by-length true e =
       settled
       (scan (bytesConditions bs rooms)
-      (fails (is-job (leb→le (length bs) 65536 (subst T (sym e) tt))), of-rules bs p i (rules rooms) (decided (jobOf p) rooms))
+      (fails (is-job (leb→le (length bs) most-bytes (subst T (sym e) tt))), of-rules bs p i (bytesRules rooms) (decided (jobOf p) rooms))
       precedence)
 
-by-bytes : (bs rooms : List ℕ) (p : Parts) → decode bs ≡ some p → (b : Bool) → areBytes bs ≡ b → Option (Settled bs rooms)
+by-bytes : (bs : List ℕ) (rooms : Rooms) (p : Parts) → decode bs ≡ some p → (b : Bool) → areBytes bs ≡ b → Option (Settled bs rooms)
 unfolding by-length
 by-bytes bs rooms p e false f = none
-by-bytes bs rooms p e true f = by-length bs rooms p (decode-sound bs p e (subst T (sym f) tt)) (leb (length bs) 65536) refl
+by-bytes bs rooms p e true f = by-length bs rooms p (decode-sound bs p e (subst T (sym f) tt)) (leb (length bs) most-bytes) refl
 
-by-parts : (bs rooms : List ℕ) (o : Option Parts) → decode bs ≡ o → Option (Settled bs rooms)
+by-parts : (bs : List ℕ) (rooms : Rooms) (o : Option Parts) → decode bs ≡ o → Option (Settled bs rooms)
 unfolding by-bytes no-job
 by-parts bs rooms none e = some (no-job bs rooms (inr (not-a-job bs e)))
 by-parts bs rooms (some p) e = by-bytes bs rooms p e (areBytes bs) refl
 
 -- What the whole call on these bytes returns. Whoever unfolds it unfolds all that the definitions compute with.
-unfoldable pub evaluate : (bs rooms : List ℕ) → Option (Settled bs rooms)
+unfoldable pub evaluate : (bs : List ℕ) (rooms : Rooms) → Option (Settled bs rooms)
 unfolding by-parts computed
 evaluate bs rooms = by-parts bs rooms (decode bs) refl
 
-abbrev pub outcomeIn : (bs rooms : List ℕ) → Option (Settled bs rooms) → Option (Outcome Answer)
-outcomeIn bs rooms none = none
-outcomeIn bs rooms (some s) = some (s .0)
+-- ---- a table of whole jobs
+
+pub record Whole : Type 0 where
+  pub bytes : List ℕ
+  pub rooms : Rooms
+  pub outcome : Outcome Answer
+
+-- the definitions say that it returns this
+abbrev pub Returned : Whole → Type 0
+Returned w = BytesReturn (w .bytes) (w .rooms) (w .outcome)
+
+abbrev outcomeIn : {A : Type 0} {P : A → Type 0} → Option ((a : A) × P a) → Option A
+outcomeIn none = none
+outcomeIn (some s) = some (s .0)
+
+abbrev pub evaluated : Whole → Option (Outcome Answer)
+evaluated w = outcomeIn (evaluate (w .bytes) (w .rooms))
+
+-- what is found with its evidence is what is expected
+found-is : {A : Type 0} (P : A → Type 0) (s : Option ((a : A) × P a)) (a : A) → outcomeIn s ≡ some a → P a
+found-is P none a e = absurd (Option·none-ne-some a e)
+found-is P (some s) a e = subst P (Option·some-injective (s .0) a e) (s .1)
 
 -- from the outcome that is found to the statement
-pub returns : (bs rooms : List ℕ) (s : Option (Settled bs rooms)) (o : Outcome Answer) → outcomeIn bs rooms s ≡ some o → BytesReturn bs rooms o
-returns bs rooms none o e = absurd (Option·none-ne-some o e)
-returns bs rooms (some s) o e = subst (BytesReturn bs rooms) (Option·some-injective (s .0) o e) (s .1)
+pub returned : (w : Whole) → evaluated w ≡ some (w .outcome) → Returned w
+returned w e = found-is (BytesReturn (w .bytes) (w .rooms)) (evaluate (w .bytes) (w .rooms)) (w .outcome) e
+
+-- ---- a table of matches in the unit cell
+
+pub record Matched : Type 0 where
+  pub position : Position
+  pub text : List ℕ
+  pub symprec : Float
+  pub match : Match
+
+abbrev unitCell : RealMatrix
+unitCell = real identity
+
+pub record IsMatch (position : Position) (text : List ℕ) (symprec : Float) (m : Match) : Type 0 where
+  pub space : Space
+  pub is-space : IsSpace text space
+  pub is-match : matchOf unitCell symprec space position ≡ m
+
+abbrev pub MatchedRight : Matched → Type 0
+MatchedRight m = IsMatch (m .position) (m .text) (m .symprec) (m .match)
+
+match-of : (position : Position) (text : List ℕ) (symprec : Float) → Option ((s : Space) × IsSpace text s) → Option ((m : Match) × IsMatch position text symprec m)
+match-of position text symprec none = none
+match-of position text symprec (some s) = some (matchOf unitCell symprec (s .0) position, record { space = s .0; is-space = s .1; is-match = refl })
+
+unfoldable match-found : (m : Matched) → Option ((r : Match) × IsMatch (m .position) (m .text) (m .symprec) r)
+unfolding match-of space-from computed
+match-found m = match-of (m .position) (m .text) (m .symprec) (space-from (m .text) (parse (spaceless (m .text))) refl)
+
+unfoldable pub matchEvaluated : Matched → Option Match
+unfolding match-found
+matchEvaluated m = outcomeIn (match-found m)
+
+pub matched : (m : Matched) → matchEvaluated m ≡ some (m .match) → MatchedRight m
+unfolding matchEvaluated
+matched m e = found-is (IsMatch (m .position) (m .text) (m .symprec)) (match-found m) (m .match) e
+
+-- the outcome of the k-th job of a table
+abbrev pub outcomeAt : List Whole → ℕ → Outcome Answer
+outcomeAt ws k = getD (map (λ w. w .outcome) ws) k (refused 0)

@@ -1,4 +1,5 @@
--- The 125 offsets, computed: "The 27 offsets in -1..1 come first, then the 98 others in -2..2, last coordinate fastest, at places 0 to 124."
+-- The 125 offsets, computed: "The 27 offsets in -1..1 come first, then the 98 others in -2..2, last coordinate fastest,
+-- at places 0 to 124."
 use Prim.Native.Nat.{ℕ}
 use mathlib.Core.Path.{_≡_, refl}
 use mathlib.Core.Bool.{Bool, _&&_}

@@ -17,16 +17,17 @@ use Rattle.definitions.specs.Refusal.{Returns, refused}
 use Rattle.definitions.specs.Matrix.{Matrix, det}
 use Rattle.definitions.specs.Real.{origin, roundAway, IsRound, unitsOf}
 use Rattle.definitions.specs.Snf.{Run, points, diagonal}
-use Rattle.definitions.specs.Evaluate.{run}
+use Rattle.math_snf_laws.specs.Evaluate.{run}
 use Rattle.definitions.specs.Centering.{linear}
 use Rattle.definitions.specs.Cell.{listedPositions, siteMapping}
 use Rattle.definitions.specs.Orbit.{Labels, orbits}
 use Rattle.definitions.specs.Coordinates.{Triplet, x, axis, times, whole, fraction, plus, minus, Reads, rows, originOf, inRange}
 use Rattle.definitions.specs.Job.{float}
-use Rattle.definitions.specs.Calls.{textConditions, inverseConditions, pointsConditions}
+use Rattle.definitions.specs.Calls.{inverseConditions, pointsConditions}
+use Rattle.definitions.specs.SiteCalls.{textConditions}
 use Rattle.data_wyckoff.specs.Reading.{unreadable-none}
 use Rattle.base_cell.specs.Labels.{labels-computed}
-use Rattle.definitions.specs.Checked.{holds, fails, verdictOf, checked, refused-with}
+use Rattle.laws.specs.Verdicts.{holds, fails, verdictOf, checked, refused-with}
 use Rattle.designs.specs.Computed.{computed}
 use Rattle.designs.specs.Evaluate.{leaves}
 
@@ -82,8 +83,10 @@ leaving = (pos 1 ∷ pos 31 ∷ pos 0 ∷ []) ∷ (pos 31 ∷ pos 0 ∷ pos 1 �
 abbrev half : Float
 half = float 0x3FE0000000000000
 
--- "C-centring: points (0,0,0), (0,1,0); at 0 the second site is (0.5, 0.5, 0)." "round: 0.5 to 1, -0.5 to -1, 2.5 to 3." "`-x,2x,1/2`: rows (-1,0,0), (2,0,0), (0,0,0), origin (0,0,0.5)."
--- "`x,y` and `+x,y,z`: 6." "Permutation 1,0,2,4,3 with two copies a site: labels 0 0 0 0 4 4 6 6 6 6, multiplicities 4, 2, 4." "Permutation 0,0: 5." "diag(2,3,1): diagonal 1, 2, 3."
+-- "C-centring: points (0,0,0), (0,1,0); at 0 the second site is (0.5, 0.5, 0)." "round: 0.5 to 1, -0.5 to -1, 2.5 to
+-- 3." "`-x,2x,1/2`: rows (-1,0,0), (2,0,0), (0,0,0), origin (0,0,0.5)."
+-- "`x,y` and `+x,y,z`: 6." "Permutation 1,0,2,4,3 with two copies a site: labels 0 0 0 0 4 4 6 6 6 6, multiplicities 4,
+-- 2, 4." "Permutation 0,0: 5." "diag(2,3,1): diagonal 1, 2, 3."
 -- "C rows (1,31,0), (31,0,1), (0,1,0): determinant -1, refused 8."
 unfoldable pub starred : List Design
 starred =

@@ -1,21 +1,34 @@
-// Records from standard input and lines to standard output, for the programs that run vectors. Numbers are little-endian.
+// Records from standard input and words to standard output, for the program that runs vectors. Numbers are
+// little-endian; past the end of the input they are 0. Each word that is printed has a space in front.
 ghost use mathlib.Core.Path.{_≡_};
 ghost use mathlib.Core.List.{[], _∷_};
-ghost use Prim.Native.Nat.{_<_};
-ghost use lib.IntN.{natAbs};
-ghost use lib.ListN.{length, replicate};
+ghost use Prim.Native.Nat.{_<_, _≤_};
 ghost use lib.Ieee.{binary64, ofBits};
-ghost use Rattle.vectors_io.specs.Bytes.{word, signed8, row, zeroMatrix, zeroTriple};
+ghost use Rattle.vectors_io.specs.Bytes.{word, signed8, row, Counts};
+use checks::magnitude;
+use checks::magnitude16;
+use definitions::Cells;
+use definitions::Point;
+use definitions::Rotation;
+use definitions::SnfMatrix;
+use definitions::Verdict;
 use libc::STDIN_FILENO;
 use libc::STDOUT_FILENO;
 
-// a word of the input, or that it has ended
-pub enum Word {
-    Is(u64),
-    End,
-}
+// room for the entries of a list, and for lent cells
+pub const MOST: usize = 300;
 
-const ZERO: [[i8; 3]; 3] = [[0, 0, 0], [0, 0, 0], [0, 0, 0]];
+pub type Bytes = [u8; MOST];
+
+pub type Triples = [Cells; MOST];
+
+pub type Points = [Point; MOST];
+
+pub type Matrices = [Rotation; MOST];
+
+const ZERO: Rotation = [[0, 0, 0], [0, 0, 0], [0, 0, 0]];
+
+// ---- what the bytes mean
 
 fn wide(x: u8) -> u64
     ensures { λ r. ⌜ (r ≡ x) × (r < 256) ⌝ }
@@ -54,16 +67,6 @@ pub fn signed_byte(b: u8) -> i8
     (n - 256) as i8
 }
 
-fn magnitude(x: i16) -> u64
-    ensures { λ r. ⌜ r ≡ natAbs x ⌝ }
-{
-    let a = x as i64;
-    if a < 0 {
-        return (0 - a) as u64;
-    }
-    a as u64
-}
-
 fn row_of(a: u8, b: u8, c: u8) -> [i8; 3]
     ensures { λ r. ⌜ r ≡ signed8 a ∷ signed8 b ∷ signed8 c ∷ [] ⌝ }
 {
@@ -74,7 +77,7 @@ fn row_of(a: u8, b: u8, c: u8) -> [i8; 3]
 }
 
 // row by row
-pub fn matrix_of(s: [u8; 9]) -> [[i8; 3]; 3]
+pub fn matrix_of(s: [u8; 9]) -> Rotation
     ensures { λ r. ⌜ r ≡ row s 0 ∷ row s 3 ∷ row s 6 ∷ [] ⌝ }
 {
     let x = row_of(s[0], s[1], s[2]);
@@ -83,16 +86,7 @@ pub fn matrix_of(s: [u8; 9]) -> [[i8; 3]; 3]
     [x, y, z]
 }
 
-// ---- reading: past the end of the input a number is 0
-
-pub fn read_word() -> Word {
-    let mut s = [0u8; 8];
-    let n = io::read_full(STDIN_FILENO, &mut s);
-    if n < 8 {
-        return Word::End;
-    }
-    Word::Is(word_of(s))
-}
+// ---- reading
 
 pub fn read_byte() -> u8 {
     let mut s = [0u8; 1];
@@ -100,61 +94,108 @@ pub fn read_byte() -> u8 {
     s[0]
 }
 
-pub fn read_float() -> f64 {
-    let w = read_word();
-    match w {
-        Word::Is(bits) => float_of(bits),
-        Word::End => 0.0f64,
-    }
+pub fn read_word() -> u64 {
+    let mut s = [0u8; 8];
+    io::read_full(STDIN_FILENO, &mut s);
+    word_of(s)
 }
 
-pub fn read_triple() -> [f64; 3] {
+// two bytes
+pub fn read_number() -> usize {
+    let low = read_byte() as usize;
+    let high = read_byte() as usize;
+    low + 256 * high
+}
+
+// no more than a list has room for
+fn within(n: usize) -> usize
+    ensures { λ r. ⌜ r ≤ 300 ⌝ }
+{
+    if MOST < n {
+        return MOST;
+    }
+    n
+}
+
+pub fn read_float() -> f64 {
+    float_of(read_word())
+}
+
+pub fn read_triple() -> Cells {
     let x = read_float();
     let y = read_float();
     let z = read_float();
     [x, y, z]
 }
 
-// false where the input has ended
-pub fn read_matrix(m: &mut [[i8; 3]; 3]) -> bool {
+pub fn read_matrix() -> Rotation {
     let mut s = [0u8; 9];
-    let n = io::read_full(STDIN_FILENO, &mut s);
-    *m = matrix_of(s);
-    n == 9
+    io::read_full(STDIN_FILENO, &mut s);
+    matrix_of(s)
 }
 
-// room for as many as a byte counts
-pub fn matrices() -> [[[i8; 3]; 3]; 256]
-    ensures { λ r. ⌜ 256 ≡ length r ⌝ }
-    ensures { λ r. ⌜ r ≡ replicate 256 zeroMatrix ⌝ }
+// ---- lists: the count, then the entries. Each list is made anew, which shows its length.
+
+pub fn read_bytes(out: &mut Bytes) -> usize
+    ensures { λ r. ⌜ Counts r (now (out .exit)) ⌝ }
 {
-    [ZERO; 256]
-}
-
-pub fn triples() -> [[f64; 3]; 256]
-    ensures { λ r. ⌜ 256 ≡ length r ⌝ }
-    ensures { λ r. ⌜ r ≡ replicate 256 zeroTriple ⌝ }
-{
-    [[0.0, 0.0, 0.0]; 256]
-}
-
-// all that fit into the part
-pub fn read_matrices(out: &mut [[[i8; 3]; 3]]) {
+    *out = [0; MOST];
+    let n = within(read_number());
     let mut i: usize = 0;
-    while i < out.len() {
-        let mut m = ZERO;
-        read_matrix(&mut m);
-        out[i] = m;
+    while i < n {
+        out[i] = read_byte();
         i += 1;
     }
+    n
 }
 
-pub fn read_triples(out: &mut [[f64; 3]]) {
+pub fn read_triples(out: &mut Triples) -> usize
+    ensures { λ r. ⌜ Counts r (now (out .exit)) ⌝ }
+{
+    *out = [[0.0, 0.0, 0.0]; MOST];
+    let n = within(read_number());
     let mut i: usize = 0;
-    while i < out.len() {
+    while i < n {
         out[i] = read_triple();
         i += 1;
     }
+    n
+}
+
+pub fn read_matrices(out: &mut Matrices) -> usize
+    ensures { λ r. ⌜ Counts r (now (out .exit)) ⌝ }
+{
+    *out = [ZERO; MOST];
+    let n = within(read_number());
+    let mut i: usize = 0;
+    while i < n {
+        out[i] = read_matrix();
+        i += 1;
+    }
+    n
+}
+
+// ---- lent cells, no one of them zero: the record has their number
+
+pub fn lend_bytes(out: &mut Bytes) -> usize
+    ensures { λ r. ⌜ Counts r (now (out .exit)) ⌝ }
+{
+    *out = [7; MOST];
+    within(read_number())
+}
+
+pub fn lend_triples(out: &mut Triples) -> usize
+    ensures { λ r. ⌜ Counts r (now (out .exit)) ⌝ }
+{
+    *out = [[7.0, 7.0, 7.0]; MOST];
+    within(read_number())
+}
+
+pub fn lend_points(out: &mut Points) -> usize
+    ensures { λ r. ⌜ Counts r (now (out .exit)) ⌝ }
+{
+    *out = [[7, 7, 7]; MOST];
+    within(read_number())
 }
 
 // ---- writing
@@ -163,42 +204,105 @@ pub fn print(text: &[u8]) {
     io::write_all(STDOUT_FILENO, text);
 }
 
-pub fn print_pattern(bits: u64) {
-    io::print_hex(STDOUT_FILENO, bits, 16);
+pub fn print_count(n: usize) {
+    print(b" ");
+    io::print_decimal(STDOUT_FILENO, n as u64);
 }
 
-// the 16 hexadecimal digits of its pattern, or `nan`
+fn print_byte(x: u8) {
+    print_count(x as usize);
+}
+
+fn print_signed(negative: bool, size: usize) {
+    if negative {
+        print(b" -");
+    } else {
+        print(b" ");
+    }
+    io::print_decimal(STDOUT_FILENO, size as u64);
+}
+
+fn print_i64(x: i64) {
+    print_signed(x < 0, magnitude(x));
+}
+
+fn print_i16(x: i16) {
+    print_signed(x < 0, magnitude16(x));
+}
+
+pub fn print_point(p: Point) {
+    print_i64(p[0]);
+    print_i64(p[1]);
+    print_i64(p[2]);
+}
+
+pub fn print_row(r: [i16; 3]) {
+    print_i16(r[0]);
+    print_i16(r[1]);
+    print_i16(r[2]);
+}
+
+pub fn print_matrix(m: SnfMatrix) {
+    print_row(m[0]);
+    print_row(m[1]);
+    print_row(m[2]);
+}
+
+pub fn print_pattern(bits: u64) {
+    print(b" ");
+    io::print_hex(STDOUT_FILENO, bits, 1);
+}
+
+// the pattern, or `nan`
 pub fn print_float(x: f64) {
     if x != x {
-        print(b"nan");
+        print(b" nan");
         return;
     }
     print_pattern(f64::to_bits(x));
 }
 
-pub fn print_triple(t: [f64; 3]) {
+pub fn print_triple(t: Cells) {
     print_float(t[0]);
-    print(b" ");
     print_float(t[1]);
-    print(b" ");
     print_float(t[2]);
 }
 
-// in decimal
-pub fn print_signed(x: i16) {
-    if x < 0 {
-        print(b"-");
+pub fn print_bytes(list: &Bytes, n: usize) {
+    let end = within(n);
+    let mut i: usize = 0;
+    while i < end {
+        print_byte(list[i]);
+        i += 1;
     }
-    io::print_decimal(STDOUT_FILENO, magnitude(x));
 }
 
-pub fn print_count(n: usize) {
-    io::print_decimal(STDOUT_FILENO, n as u64);
+pub fn print_triples(list: &Triples, n: usize) {
+    let end = within(n);
+    let mut i: usize = 0;
+    while i < end {
+        print_triple(list[i]);
+        i += 1;
+    }
 }
 
-// `refused K` and the end of the line
+pub fn print_points(list: &Points, n: usize) {
+    let end = within(n);
+    let mut i: usize = 0;
+    while i < end {
+        print_point(list[i]);
+        i += 1;
+    }
+}
+
 pub fn print_refused(k: usize) {
-    print(b"refused ");
+    print(b" refused");
     print_count(k);
-    print(b"\n");
+}
+
+pub fn print_verdict(v: Verdict) {
+    match v {
+        Verdict::Accepted => print(b" accepted"),
+        Verdict::Refused(k) => print_refused(k),
+    }
 }

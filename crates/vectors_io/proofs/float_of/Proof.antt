@@ -33,8 +33,7 @@ float-from-bits-result c =
     let b = c .before .args .bits in
     subst (λ (v : Bool). T (not v)) (sym (nanBits-above binary64 b ∙ le-ltb 0x7FF0000000000000 (b % 0x8000000000000000) (c .if1 .left))) tt
 
-returns-2 : tie.Need-returns-2
-returns-2 c = search needs
-
 pub float-of-spec : {M : Type 1} → statement M
-float-of-spec = tie.close (tie.spec returns float-from-bits-result returns-2)
+float-of-spec =
+    tie.close
+    (tie.spec returns float-from-bits-result (search needs))

@@ -18,9 +18,6 @@ small n h = ap (λ b. sel b (pos n) (negsuc (2 ^ 16 - suc n))) (lt-ltb n (2 ^ 15
 low : (n : ℕ) → n < 256 → 128 ≤ n → toZ w16 n -ℤ pos 256 ≡ negsuc (255 - n)
 low n h k = rw (small n h) (ap (λ b. cond b (negsuc (256 - suc n)) (pos (n - 256))) (lt-ltb n 256 h) ∙ ap negsuc (omega arith))
 
-cast-n : tie.Need-cast-n
-cast-n c = search needs
-
 cast-result : tie.Need-cast-result
 cast-result c = rw (small (c .before .args .b) (c .before .fits .b .fits)) (record { sfits = omega (arith, c .if1 .taken) })
 
@@ -45,4 +42,6 @@ returns-2 c =
     rw (low (c .before .args .b) (c .before .fits .b .fits) (c .if1 .left), toZ-ofZ w16 _ (fits₁ c), toZ-ofZ w8 _ (fits₂ c), le-ltb _ 128 (c .if1 .left))
 
 pub signed-byte-spec : {M : Type 1} → statement M
-signed-byte-spec = tie.close (tie.spec cast-n cast-result returns sub-result cast-result-2 returns-2)
+signed-byte-spec =
+    tie.close
+    (tie.spec (search needs) cast-result returns sub-result cast-result-2 returns-2)

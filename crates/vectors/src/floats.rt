@@ -1,0 +1,31 @@
+// Rounding, the square root, and the remainder modulo 1: the patterns that go in, then those that come out.
+use definitions::Position;
+use math_real::position::remainder;
+use math_round::round;
+use math_sqrt::sqrt;
+use vectors_io::print_float;
+
+// a float, whose pattern is printed: of a NaN too
+fn read_shown() -> f64 {
+    let bits = vectors_io::read_word();
+    vectors_io::print_pattern(bits);
+    vectors_io::float_of(bits)
+}
+
+pub(crate) fn run_round() {
+    print_float(round(read_shown()));
+}
+
+pub(crate) fn run_sqrt() {
+    print_float(sqrt(read_shown()));
+}
+
+pub(crate) fn run_remainder() {
+    let x = read_shown();
+    let y = read_shown();
+    let z = read_shown();
+    let p = remainder(Position { x: x, y: y, z: z });
+    print_float(p.x);
+    print_float(p.y);
+    print_float(p.z);
+}

@@ -1,0 +1,55 @@
+// The calls of base/permutation.rs.
+use base_permutation::apply;
+use base_permutation::identity;
+use base_permutation::inverse;
+use base_permutation::product;
+use definitions::Image;
+use definitions::PrimSite;
+use vectors_io::MOST;
+use vectors_io::lend_bytes;
+use vectors_io::print_bytes;
+use vectors_io::print_verdict;
+use vectors_io::read_bytes;
+use vectors_io::read_number;
+
+pub(crate) fn run_identity() {
+    let n = read_number();
+    let mut out = [0u8; MOST];
+    let room = lend_bytes(&mut out);
+    let v = identity(n, &mut out[..room]);
+    print_verdict(v);
+    print_bytes(&out, room);
+}
+
+pub(crate) fn run_apply() {
+    let mut p = [0u8; MOST];
+    let n = read_bytes(&mut p);
+    let site = read_number();
+    let image = apply(&p[..n], PrimSite(site));
+    match image {
+        Image::Site(s) => vectors_io::print_count(s.0),
+        Image::Refused(k) => vectors_io::print_refused(k),
+    }
+}
+
+pub(crate) fn run_inverse() {
+    let mut p = [0u8; MOST];
+    let n = read_bytes(&mut p);
+    let mut out = [0u8; MOST];
+    let room = lend_bytes(&mut out);
+    let v = inverse(&p[..n], &mut out[..room]);
+    print_verdict(v);
+    print_bytes(&out, room);
+}
+
+pub(crate) fn run_product() {
+    let mut p = [0u8; MOST];
+    let n = read_bytes(&mut p);
+    let mut q = [0u8; MOST];
+    let k = read_bytes(&mut q);
+    let mut out = [0u8; MOST];
+    let room = lend_bytes(&mut out);
+    let v = product(&p[..n], &q[..k], &mut out[..room]);
+    print_verdict(v);
+    print_bytes(&out, room);
+}
