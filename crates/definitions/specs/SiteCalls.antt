@@ -1,9 +1,9 @@
 -- The public calls on listed sites: to list, to label, to read and to prepare a candidate, to match, to letter.
 use Prim.Native.Nat.{ℕ, _*_}
 use mathlib.Core.Path.{_≡_}
-use mathlib.Core.Bool.{Bool, not, _||_}
+use mathlib.Core.Bool.{Bool, cond, not, _&&_, _||_}
 use mathlib.Core.List.{List, [], _∷_, map}
-use lib.ListN.{length}
+use lib.ListN.{length, getD}
 use lib.Dec.{T, ltb}
 use lib.IntN.{ℤ, pos}
 use lib.Ieee.{Float}
@@ -13,12 +13,12 @@ use Rattle.definitions.specs.declared.Verdict.{Verdict}
 use Rattle.definitions.specs.declared.Verdict.the-variants.{Accepted, Refused}
 use Rattle.definitions.specs.declared.Matching.{Matching}
 use Rattle.definitions.specs.declared.Matching.the-variants as matching
-use Rattle.definitions.specs.Lists.{all, any, each, Some}
+use Rattle.definitions.specs.Lists.{all, any, each, upTo, Some}
 use Rattle.definitions.specs.Refusal.{Condition, _when_, counts, matrix-entry, float-range, site-image}
 use Rattle.definitions.specs.Refusal.{coordinates}
 use Rattle.definitions.specs.Refusal.{determinant, diagonalisation, listed-sites, buffer, orbit-fit}
 use Rattle.definitions.specs.Refusal.{Outcome, accepted, refused, Returns, Checked, Answered, Promised, Holds}
-use Rattle.definitions.specs.Limits.{tooManySites, tooManyCandidates, inRangeOfC, latticeWithin}
+use Rattle.definitions.specs.Limits.{tooManySites, tooManyCandidates, most-copies, inRangeOfC, latticeWithin}
 use Rattle.definitions.specs.Limits.{positionWithin, goodSymprec, copies, badCopies, tooManyListed, shorterThan}
 use Rattle.definitions.specs.Matrix.{Matrix}
 use Rattle.definitions.specs.Real.{RealMatrix}
@@ -29,8 +29,10 @@ use Rattle.definitions.specs.Snf.{State, Run, Leaves, points}
 use Rattle.definitions.specs.Cell.{listedPositions, listedPoints, siteMapping, listedElements}
 use Rattle.definitions.specs.Orbit.{Labels, multiplicities}
 use Rattle.definitions.specs.Coordinates.{Triplet, Reads, Readable, rows, originOf}
-use Rattle.definitions.specs.Wyckoff.{Space, IsSpace, matchOf, Lettering, Found, Unfit, sitesOf, letters}
-use Rattle.definitions.specs.Standardize.{BadCoordinates, TextLeaves, CandidateLeaves}
+use Rattle.definitions.specs.Wyckoff.{Space, IsSpace, AreSpaces, matchOf, Choice, Lettering, Found, Sites}
+use Rattle.definitions.specs.Wyckoff.{Unfit, sitesOf, letterOf, letters}
+use Rattle.definitions.specs.Standardize.{BadCoordinates, TextLeaves}
+use Rattle.definitions.specs.Transformation.{isNone}
 use Rattle.definitions.specs.Calls.{zeroState}
 
 -- ---- base/cell.rs and `Transformation::transform_cell`: listed sites
@@ -69,6 +71,31 @@ pub record HoldsListing (entry exit : ListingCells) (a : Listing) : Type 0 where
 
 abbrev pub nothingListed : Listing
 nothingListed = record { positions = []; points = []; mapping = []; elements = [] }
+
+-- The step that lists the copies of positions, given or computed, at the points fs: all of them where each list has
+-- room for them, and nothing where one has not, or where there are too many.
+abbrev pub listable : ℕ → ℕ → ℕ → List ℕ → Bool
+listable n elements m rooms =
+    not (tooManySites n)
+    && not (unlike elements n)
+    && not (ltb most-copies m)
+    && not (any (shorterThan (n * m)) rooms)
+
+abbrev pub listingAt : Matrix → List ℤ → List Position → List (List ℤ) → Listing
+listingAt c es ps fs =
+    record {
+      positions = listedPositions c ps fs;
+      points = listedPoints (length ps) fs;
+      mapping = siteMapping (length ps) (length fs);
+      elements = listedElements es (length fs);
+    }
+
+abbrev pub CopiesListed :
+    Matrix → List (List ℤ) → List ℤ → List (List Float) → ListingCells → ListingCells → Type 0
+CopiesListed c fs es ps entry exit =
+    HoldsListing entry exit
+    (cond (listable (length ps) (length es) (length fs) (listingRooms entry)) (listingAt c es (map positionFrom ps) fs)
+    nothingListed)
 
 -- List the copies of given positions: 2, 3, 4, 7, 8, 9, 10.
 abbrev pub listConditions : Matrix → List ℤ → List (List Float) → List ℕ → List Condition
@@ -181,6 +208,39 @@ SpaceLent text m q s (Refused k) = (m ≡ zeroMatrix) × (q ≡ zeroCells) × (s
 abbrev pub PreparePromise : List ℕ → Matrix → List Float → State → Verdict → Type 0
 PreparePromise text m q s v = Checked (prepareConditions text) v × SpaceLent text m q s v
 
+-- The spaces of candidates in lent lists, one entry a candidate in each: M, q, D, L, R.
+pub record SpaceCells : Type 0 where
+  pub matrices : List Matrix
+  pub shifts : List (List Float)
+  pub ds : List Matrix
+  pub ls : List Matrix
+  pub rs : List Matrix
+
+abbrev pub spaceRooms : SpaceCells → List ℕ
+spaceRooms e =
+    length (e .matrices) ∷ length (e .shifts) ∷ length (e .ds) ∷ length (e .ls) ∷ length (e .rs) ∷ []
+
+pub record HoldsSpaces (entry exit : SpaceCells) (ss : List Space) : Type 0 where
+  pub matrices : Holds zeroMatrix (entry .matrices) (exit .matrices) (map (λ s. s .matrix) ss)
+  pub shifts : Holds zeroCells (entry .shifts) (exit .shifts) (map (λ s. cellsOf (s .shift)) ss)
+  pub ds : Holds zeroMatrix (entry .ds) (exit .ds) (map (λ s. s .snf .d) ss)
+  pub ls : Holds zeroMatrix (entry .ls) (exit .ls) (map (λ s. s .snf .l) ss)
+  pub rs : Holds zeroMatrix (entry .rs) (exit .rs) (map (λ s. s .snf .r) ss)
+
+-- Prepare every candidate of a list, once for all positions: 2, 6, 8, 10.
+abbrev pub prepareAllConditions : List (List ℕ) → List ℕ → List Condition
+prepareAllConditions texts rooms =
+    (counts when T (tooManyCandidates (length texts)))
+    ∷ (coordinates when BadCoordinates texts)
+    ∷ (diagonalisation when Some TextLeaves texts)
+    ∷ (buffer when T (any (shorterThan (length texts)) rooms))
+    ∷ []
+
+abbrev pub PrepareAllPromise : List (List ℕ) → SpaceCells → SpaceCells → Verdict → Type 0
+PrepareAllPromise texts entry exit =
+    Promised (prepareAllConditions texts (spaceRooms entry)) (AreSpaces texts)
+    (HoldsSpaces entry exit) (HoldsSpaces entry exit [])
+
 -- One position against one candidate (`match_wyckoff_coordinates`): 4, 6, 8.
 abbrev pub matchConditions : RealMatrix → Position → List ℕ → Float → List Condition
 matchConditions basis p text symprec =
@@ -247,8 +307,8 @@ letterConditions x rooms =
     (counts when T (badLetterCounts x))
     ∷ (float-range when T (badFloats (x .basis) (x .positions) (x .symprec)))
     ∷ (site-image when T (badImages n (x .labelling .count) (x .labelling .images) || badMapping n mapping))
-    ∷ (coordinates when BadCoordinates (candidatesIn x))
-    ∷ (diagonalisation when Some CandidateLeaves (candidatesIn x))
+    ∷ (coordinates when BadCoordinates (x .texts))
+    ∷ (diagonalisation when Some TextLeaves (x .texts))
     ∷ (listed-sites when T (tooManyListed (length mapping)))
     ∷ (buffer when T (any (shorterThan (length mapping)) rooms))
     ∷ (orbit-fit when Unfit (designFrom x))
@@ -286,3 +346,59 @@ abbrev pub LetterPromise : LetterArguments → LetterCells → LetterCells → V
 LetterPromise x entry exit =
     Promised (letterConditions x (letterRooms entry)) (IsLettered x)
     (HoldsLetters entry exit) (HoldsLetters entry exit nothingLettered)
+
+-- ---- the step that letters
+
+-- Listed sites with labels and multiplicities as lent, positions and a basis, given or computed, and candidates with
+-- their spaces.
+pub record AssignArguments : Type 0 where
+  pub labels : List ℕ
+  pub multiplicities : List ℕ
+  pub positions : List (List Float)
+  pub basis : RealMatrix
+  pub symprec : Float
+  pub candidates : List ℕ
+  pub letters : List ℕ
+  pub spaces : SpaceCells
+
+-- the candidate at place k, by its multiplicity, its letter and its space
+abbrev pub choiceAt : AssignArguments → ℕ → Choice
+choiceAt x k =
+    record {
+      multiplicity = getD (x .candidates) k 0;
+      letter = getD (x .letters) k 0;
+      space =
+          spaceFrom (getD (x .spaces .matrices) k []) (getD (x .spaces .shifts) k [])
+          (record { d = getD (x .spaces .ds) k []; l = getD (x .spaces .ls) k []; r = getD (x .spaces .rs) k [] });
+    }
+
+abbrev pub sitesIn : AssignArguments → Sites
+sitesIn x =
+    record {
+      positions = map positionFrom (x .positions);
+      labels = x .labels;
+      multiplicities = x .multiplicities;
+      basis = x .basis;
+      choices = map (choiceAt x) (upTo (length (x .candidates)));
+      symprec = x .symprec;
+    }
+
+-- each list has its entries, not too many, and each label is a listed site's
+abbrev pub assignable : AssignArguments → ℕ → Bool
+assignable x room =
+    let n = length (x .labels) in
+    not (tooManyListed n)
+    && not (tooManyCandidates (length (x .candidates)))
+    && not (any (unlike n) (length (x .multiplicities) ∷ length (x .positions) ∷ []))
+    && not (any (unlike (length (x .candidates))) (length (x .letters) ∷ spaceRooms (x .spaces)))
+    && not (shorterThan n room)
+    && all (λ l. ltb l n) (x .labels)
+
+-- every site's orbit has a letter
+abbrev pub allLettered : Sites → Bool
+allLettered g = all (λ l. not (isNone (letterOf g l))) (g .labels)
+
+-- The letters, where there are lists to letter and every orbit has one; zero letters otherwise.
+pub record Assigned (x : AssignArguments) (entry exit : List ℕ) (whole : Bool) : Type 0 where
+  pub judged : whole ≡ (assignable x (length entry) && allLettered (sitesIn x))
+  pub letters : Holds 0 entry exit (cond whole (letters (sitesIn x)) [])

@@ -27,7 +27,7 @@ use Rattle.definitions.specs.Snf.{Run, Leaves, points, diagonal}
 use Rattle.definitions.specs.Cell.{listedPositions, listedPoints, siteMapping, listedElements}
 use Rattle.definitions.specs.Orbit.{multiplicities, orbits}
 use Rattle.definitions.specs.Coordinates.{Triplet, Reads, Readable, rows}
-use Rattle.definitions.specs.Wyckoff.{Lettering, Found, Unfit, sitesOf, letters}
+use Rattle.definitions.specs.Wyckoff.{textsOf, Lettering, Found, Unfit, sitesOf, letters}
 
 -- ---- refused by what was given
 
@@ -80,8 +80,8 @@ badImage j = badImages (siteCount j) (length (j .operations)) (j .images)
 
 -- Refusal 6: "A coordinate string outside the grammar below, or whose summed coefficient leaves -31..31", of any
 -- candidate
-abbrev pub BadCoordinates : List Candidate → Type 0
-BadCoordinates = Some (λ w. Readable (w .text) → ⊥)
+abbrev pub BadCoordinates : List (List ℕ) → Type 0
+BadCoordinates = Some (λ text. Readable text → ⊥)
 
 -- Refusal 7: "Determinant of T not 1 or -1; of C zero, or over 64 in magnitude."
 abbrev pub badDeterminant : Job → Bool
@@ -93,11 +93,8 @@ badDeterminant j = notUnimodular (j .t) || badCopies (j .c)
 abbrev pub TextLeaves : List ℕ → Type 0
 TextLeaves text = (t : Triplet) × Reads text t × Leaves (rows t)
 
-abbrev pub CandidateLeaves : Candidate → Type 0
-CandidateLeaves w = TextLeaves (w .text)
-
 abbrev pub EntryLeaves : Job → Type 0
-EntryLeaves j = Leaves (j .c) ⊎ Some CandidateLeaves (j .candidates)
+EntryLeaves j = Leaves (j .c) ⊎ Some TextLeaves (textsOf (j .candidates))
 
 -- the number of listed sites
 abbrev pub listedCount : Job → ℕ
@@ -162,7 +159,7 @@ givenRules =
     ∷ (matrix-entry says λ j. T (badEntry j))
     ∷ (float-range says λ j. T (badFloat j))
     ∷ (site-image says λ j. T (badImage j))
-    ∷ (coordinates says λ j. BadCoordinates (j .candidates))
+    ∷ (coordinates says λ j. BadCoordinates (textsOf (j .candidates)))
     ∷ (determinant says λ j. T (badDeterminant j))
     ∷ []
 

@@ -103,12 +103,16 @@ pub record IsSpace (text : List ℕ) (s : Space) : Type 0 where
   pub run : Run (rows triplet)
   pub snf : s .snf ≡ run .third
 
--- a space for each candidate
-unfoldable pub AreSpaces : List Candidate → List Space → Type 0
+-- the candidates' coordinates
+abbrev pub textsOf : List Candidate → List (List ℕ)
+textsOf = map (λ w. w .text)
+
+-- a space for each of them
+unfoldable pub AreSpaces : List (List ℕ) → List Space → Type 0
 AreSpaces [] [] = Unit {0}
 AreSpaces [] (s ∷ ss) = ⊥
-AreSpaces (w ∷ ws) [] = ⊥
-AreSpaces (w ∷ ws) (s ∷ ss) = IsSpace (w .text) s × AreSpaces ws ss
+AreSpaces (t ∷ ts) [] = ⊥
+AreSpaces (t ∷ ts) (s ∷ ss) = IsSpace t s × AreSpaces ts ss
 
 -- a candidate with its space
 pub record Choice : Type 0 where
@@ -149,14 +153,16 @@ pub record Lettering : Type 0 where
 -- What is found of it: a space for each candidate, and the labels.
 pub record Found (g : Lettering) : Type 0 where
   pub spaces : List Space
-  pub are-spaces : AreSpaces (g .candidates) spaces
+  pub are-spaces : AreSpaces (textsOf (g .candidates)) spaces
   pub labels : List ℕ
   pub are-labels : Labels (g .permutations) (g .mapping) labels
 
--- Listed positions with the labels of their orbits, the listed basis, the candidates with their spaces, and symprec.
+-- Listed positions with the labels and the multiplicities of their orbits, the listed basis, the candidates with their
+-- spaces, and symprec.
 pub record Sites : Type 0 where
   pub positions : List Position
   pub labels : List ℕ
+  pub multiplicities : List ℕ
   pub basis : RealMatrix
   pub choices : List Choice
   pub symprec : Float
@@ -166,6 +172,7 @@ sitesOf {g} w =
     record {
       positions = g .positions;
       labels = w .labels;
+      multiplicities = multiplicities (w .labels);
       basis = g .basis;
       choices = choices (g .candidates) (w .spaces);
       symprec = g .symprec;
@@ -174,9 +181,9 @@ sitesOf {g} w =
 -- "A listed site fits a candidate if the candidate's multiplicity is that of the site's orbit and at least one of the
 -- 125 offsets fits, p being the listed position."
 unfoldable pub siteFits : Sites → ℕ → Choice → Bool
-unfolding multiplicities positionFits
+unfolding positionFits
 siteFits g j w =
-    positionFits (g .basis) (g .symprec) (getD (multiplicities (g .labels)) j 0) (getD (g .positions) j origin) w
+    positionFits (g .basis) (g .symprec) (getD (g .multiplicities) j 0) (getD (g .positions) j origin) w
 
 -- the site fits at least one candidate
 unfoldable pub siteFitsAny : Sites → ℕ → Bool
@@ -190,7 +197,7 @@ orbitFits g l = any (siteFitsAny g) (orbit (g .labels) l)
 
 -- "Its letter is then that of the first candidate, in list order, that its first such site fits."
 unfoldable pub letterOf : Sites → ℕ → Option ℕ
-unfolding first orbit siteFitsAny multiplicities candidateFor
+unfolding first orbit siteFitsAny candidateFor
 letterOf g l = bySite (first (siteFitsAny g) (orbit (g .labels) l))
   where
     byChoice : Option Choice → Option ℕ
@@ -201,7 +208,7 @@ letterOf g l = bySite (first (siteFitsAny g) (orbit (g .labels) l))
     bySite none = none
     bySite (some j) =
         byChoice
-        (candidateFor (g .basis) (g .symprec) (getD (multiplicities (g .labels)) j 0) (getD (g .positions) j origin)
+        (candidateFor (g .basis) (g .symprec) (getD (g .multiplicities) j 0) (getD (g .positions) j origin)
         (g .choices))
 
 -- Refusal 13: "An orbit without a fit."

@@ -84,6 +84,22 @@ pub enum Standardized {
     Refused(usize),
 }
 
+// How many of each command a job has.
+pub struct JobCounts {
+    pub sites: usize,
+    pub operations: usize,
+    pub images: usize,
+    pub targets: usize,
+    pub rotations: usize,
+    pub candidates: usize,
+}
+
+// What the call that reads a job's bytes says: how many of each there are, or refused with one number.
+pub enum JobRead {
+    Read(JobCounts),
+    Refused(usize),
+}
+
 // What the image call of a permutation says: the image, or refused with one number.
 pub enum Image {
     Site(PrimSite),

@@ -5,6 +5,8 @@ pub const MOST_SITES: usize = 256;
 
 pub const MOST_OPERATIONS: usize = 96;
 
+pub const MOST_CANDIDATES: usize = 64;
+
 pub const MOST_COPIES: usize = 64;
 
 pub const MOST_LISTED: usize = 1024;

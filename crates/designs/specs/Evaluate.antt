@@ -29,8 +29,8 @@ use Rattle.definitions.specs.Transformation.{aligned, targetAbsent}
 use Rattle.definitions.specs.Symmetrization.{primitivePositions, latticeFails, oldBasis}
 use Rattle.definitions.specs.Cell.{siteMapping, listedPositions}
 use Rattle.definitions.specs.Orbit.{Labels}
-use Rattle.definitions.specs.Wyckoff.{Space, IsSpace, matchOf, AreSpaces, Lettering, Found, sitesOf, orbitWithoutFit}
-use Rattle.definitions.specs.Standardize.{siteCount, listedCount, badCounts, badEntry, badFloat, badImage, badDeterminant, CandidateLeaves, Rooms, tooShort, letteringOf, Work, NoFit, Rule, rules, bytesRules, jobConditions, OfParts, bytesConditions, Answer, answerOf, BytesReturn}
+use Rattle.definitions.specs.Wyckoff.{Space, IsSpace, matchOf, textsOf, AreSpaces, Lettering, Found, sitesOf, orbitWithoutFit}
+use Rattle.definitions.specs.Standardize.{siteCount, listedCount, badCounts, badEntry, badFloat, badImage, badDeterminant, TextLeaves, Rooms, tooShort, letteringOf, Work, NoFit, Rule, rules, bytesRules, jobConditions, OfParts, bytesConditions, Answer, answerOf, BytesReturn}
 use Rattle.definitions.specs.Limits.{small, copies, most-bytes, tooManyListed}
 use Rattle.data_wyckoff.specs.Reader.{parse}
 use Rattle.data_wyckoff.specs.Reading.{read-unique, parse-reads, parse-none}
@@ -89,28 +89,30 @@ unfoldable pub leaves : (m : Matrix) → Tested (Leaves m)
 unfolding by-run
 leaves m = by-run (run passes m)
 
-module _ (w : Candidate) where
-  of-tree : (t : Triplet) → Reads (w .text) t → Tested (Leaves (rows t)) → Tested (CandidateLeaves w)
+module _ (text : List ℕ) where
+  of-tree : (t : Triplet) → Reads text t → Tested (Leaves (rows t)) → Tested (TextLeaves text)
   of-tree t r (holds l) = holds (t, r, l)
-  of-tree t r (fails n) = fails (λ x. n (subst (λ u. Leaves (rows u)) (read-unique (w .text) (x .0) t (x .1) r) (x .2)))
+  of-tree t r (fails n) = fails (λ x. n (subst (λ u. Leaves (rows u)) (read-unique text (x .0) t (x .1) r) (x .2)))
   of-tree t r untested = untested
 
-  of-text : (o : Option Triplet) → parse (spaceless (w .text)) ≡ o → Tested (CandidateLeaves w)
+  of-text : (o : Option Triplet) → parse (spaceless text) ≡ o → Tested (TextLeaves text)
   unfolding of-tree leaves
-  of-text none e = fails (λ x. parse-none (w .text) e (x .0) (x .1))
-  of-text (some t) e = of-tree t (parse-reads (w .text) t e) (leaves (rows t))
+  of-text none e = fails (λ x. parse-none text e (x .0) (x .1))
+  of-text (some t) e = of-tree t (parse-reads text t e) (leaves (rows t))
 
-unfoldable candidate-leaves : (w : Candidate) → Tested (CandidateLeaves w)
+unfoldable text-leaves : (text : List ℕ) → Tested (TextLeaves text)
 unfolding of-text
-candidate-leaves w = of-text w (parse (spaceless (w .text))) refl
+text-leaves text = of-text text (parse (spaceless text)) refl
 
 -- ---- the work
 
-spaces-with : (w : Candidate) (ws : List Candidate) → Option ((s : Space) × IsSpace (w .text) s) → Option ((ss : List Space) × AreSpaces ws ss) → Option ((ss : List Space) × AreSpaces (w ∷ ws) ss)
+spaces-with :
+    (t : List ℕ) (ts : List (List ℕ)) → Option ((s : Space) × IsSpace t s) → Option ((ss : List Space) × AreSpaces ts ss) →
+    Option ((ss : List Space) × AreSpaces (t ∷ ts) ss)
 unfolding AreSpaces
-spaces-with w ws none q = none
-spaces-with w ws (some p) none = none
-spaces-with w ws (some p) (some q) = some (p .0 ∷ q .0, (p .1, q .1))
+spaces-with t ts none q = none
+spaces-with t ts (some p) none = none
+spaces-with t ts (some p) (some q) = some (p .0 ∷ q .0, (p .1, q .1))
 
 module _ (text : List ℕ) where
   space-of : (t : Triplet) → Reads text t → Option (Run (rows t)) → Option ((s : Space) × IsSpace text s)
@@ -126,10 +128,10 @@ module _ (text : List ℕ) where
   space-from none e = none
   space-from (some t) e = space-of t (parse-reads text t e) (run passes (rows t))
 
-unfoldable spaces : (ws : List Candidate) → Option ((ss : List Space) × AreSpaces ws ss)
+unfoldable spaces : (ts : List (List ℕ)) → Option ((ss : List Space) × AreSpaces ts ss)
 unfolding space-from spaces-with AreSpaces
 spaces [] = some ([], tt)
-spaces (w ∷ ws) = spaces-with w ws (space-from (w .text) (parse (spaceless (w .text))) refl) (spaces ws)
+spaces (t ∷ ts) = spaces-with t ts (space-from t (parse (spaceless t)) refl) (spaces ts)
 
 -- labels need permutations, and a mapping into their sites
 labelled : (n : ℕ) (ps : List (List ℕ)) (mapping : List ℕ) (a b : Bool) → all (isPermutation n) ps ≡ a → all (λ i. ltb i n) mapping ≡ b → Option ((ls : List ℕ) × Labels ps mapping ls)
@@ -139,7 +141,7 @@ labelled n ps mapping true true e f =
     some (labelsBy (classes n ps) mapping, labels-computed n ps mapping (subst T (sym e) tt) (subst T (sym f) tt))
 
 module _ (j : Job) (r : Run (j .c)) where
-  found-of : Option ((ss : List Space) × AreSpaces (j .candidates) ss) → Option ((ls : List ℕ) × Labels (aligned j) (siteMapping (siteCount j) (copies (j .c))) ls) → Option (Work j)
+  found-of : Option ((ss : List Space) × AreSpaces (textsOf (j .candidates)) ss) → Option ((ls : List ℕ) × Labels (aligned j) (siteMapping (siteCount j) (copies (j .c))) ls) → Option (Work j)
   found-of none q = none
   found-of (some p) none = none
   found-of (some p) (some q) = some (record { run = r; found = record { spaces = p .0; are-spaces = p .1; labels = q .0; are-labels = q .1 } })
@@ -148,7 +150,7 @@ work-of : (j : Job) → Option (Run (j .c)) → Option (Work j)
 unfolding found-of spaces labelled
 work-of j none = none
 work-of j (some r) =
-    found-of j r (spaces (j .candidates))
+    found-of j r (spaces (textsOf (j .candidates)))
     (labelled (siteCount j) (aligned j) (siteMapping (siteCount j) (copies (j .c)))
     (all (isPermutation (siteCount j)) (aligned j))
     (all (λ i. ltb i (siteCount j)) (siteMapping (siteCount j) (copies (j .c))))
@@ -198,7 +200,7 @@ no-fit j = by-work j (work j)
 -- ---- the outcome
 
 decided : (j : Job) (rooms : Rooms) → TestedAll (jobConditions j rooms)
-unfolding TestedAll test some-of negated readable leaves candidate-leaves no-fit either
+unfolding TestedAll test some-of negated readable leaves text-leaves no-fit either
 decided j rooms = (
   test (badCounts j),
   (
@@ -208,11 +210,11 @@ decided j rooms = (
       (
         test (badImage j),
         (
-          some-of (λ w. Readable (w .text) → ⊥) (λ w. negated (readable (w .text))) (j .candidates),
+          some-of (λ text. Readable text → ⊥) (λ text. negated (readable text)) (textsOf (j .candidates)),
           (
             test (badDeterminant j),
             (
-              either (leaves (j .c)) (some-of CandidateLeaves candidate-leaves (j .candidates)),
+              either (leaves (j .c)) (some-of TextLeaves text-leaves (textsOf (j .candidates))),
               (
                 test (tooManyListed (listedCount j)),
                 (
