@@ -1,5 +1,5 @@
 -- Coordinates: their reading back, its soundness and uniqueness, the meaning of rows and origin; the scan that the code
--- makes.
+-- makes; prepared candidates.
 pub mod Reader
 pub mod Sound
 pub mod Reading
@@ -8,3 +8,4 @@ pub mod Origin
 pub mod Scan
 pub mod Scanned
 pub mod Terms
+pub mod Spaces

@@ -1,4 +1,6 @@
 // The coordinates of a Wyckoff position (moyo's data/wyckoff.rs), from their text to a matrix and an origin.
+pub mod space;
+
 use definitions::Cells;
 use definitions::Rotation;
 use definitions::Text;
