@@ -1,187 +1,149 @@
--- The code's tables of offsets are the definition's 125, in its order: the rule of each table, computed over all of its
--- entries.
-use Prim.Native.Nat.{ℕ, zero, suc, _+_, _<_}
-use mathlib.Core.Path.{_≡_, refl, sym, ap, _∙_}
-use mathlib.Core.List.{List, [], _∷_, _++_, map, map-map, map-append}
-use native.Mathlib.Nat.{not-suc-le-zero, le-of-suc-le-suc}
-use lib.ListN.{length, getD, take, drop, length-map, take-append-drop}
-use lib.IntN.{ℤ, pos, negsuc}
+-- The table of letters: after j sites it has what they give each label.
+use Prim.Native.Nat.{ℕ, _+_, _≤_, _<_}
+use mathlib.Core.Path.{_≡_, refl, sym, ap, _∙_, subst}
+use mathlib.Core.Bool.{Bool, true, false, not}
+use mathlib.Core.List.{List}
+use mathlib.Core.Option.{Option, none, some}
 use native.Mathlib.Omega.{arith}
-use lib.Seq.{ext-getD}
-use lib.Ieee.{Float, nan, binary64, ofBits, ofInt, round}
+use native.Mathlib.Numerals.{add-one}
+use borrow.Author.Tests.{eqb-true, eqb-false, eq-eqb, ne-eqb}
+use lib.Dec.{eqb}
+use lib.ListN.{length, getD, set, drop, replicate, getD-replicate}
+use lib.Seq.{getD-set-same, getD-set-other}
+use lib.Ieee.{Float}
 use Rattle.definitions.specs.declared.Position.{Position}
 use Rattle.definitions.specs.declared.Match.{Match}
 use Rattle.definitions.specs.declared.Match.the-variants.{Fits, Misses}
-use Rattle.definitions.specs.Lists.{all, each, those}
-use Rattle.definitions.specs.Real.{RealMatrix, zeroF, oneF, origin, realOf}
-use Rattle.definitions.specs.Cell.{pointOf}
-use Rattle.definitions.specs.Wyckoff.{offsets}
-use Rattle.laws.specs.Lists.{map-at}
-use Rattle.symmetrize_wyckoff.specs.Match.{RealSpace, squareReal, squaresReal, matchReal, firstNear, Column, cell}
-use Rattle.symmetrize_wyckoff.proofs.Near.{append-fits, append-misses}
+use Rattle.definitions.specs.Lists.{first, upTo}
+use Rattle.definitions.specs.Real.{RealMatrix}
+use Rattle.definitions.specs.Limits.{most-listed}
+use Rattle.laws.specs.Counting.{length-upTo, getD-upTo}
+use Rattle.symmetrize_wyckoff.specs.Firsts.{orElse, first-miss, first-hit, first-end}
+use Rattle.symmetrize_wyckoff.specs.Walk.{isFit, walked}
+use Rattle.symmetrize_wyckoff.specs.Prepared.{RealCandidates, spaceAt, fitsReal, foundReal}
+use Rattle.symmetrize_wyckoff.specs.Prepared.{no-letter, Notes, NotesAll, AreNoted, isNoted}
+use Rattle.symmetrize_match.specs.Match.{matchReal}
 
--- ---- three lists side by side
+-- ---- the search among n candidates, by places
 
-module _ {A B : Type 0} (f : A → A → A → B) where
-  unfoldable pub zip3 : List A → List A → List A → List B
-  zip3 [] ys zs = []
-  zip3 (x ∷ xs) [] zs = []
-  zip3 (x ∷ xs) (y ∷ ys) [] = []
-  zip3 (x ∷ xs) (y ∷ ys) (z ∷ zs) = f x y z ∷ zip3 xs ys zs
+module _ (t : ℕ → Bool) (n k : ℕ) where
+  pub place-miss : k < n → t k ≡ false → first t (drop k (upTo n)) ≡ first t (drop (k + 1) (upTo n))
+  place-miss h e = first-miss t 0 (upTo n) k (omega (arith, length-upTo n)) (ap t (getD-upTo n k 0 h) ∙ e)
 
-  pub zip3-at : (xs ys zs : List A) (a : A) (b : B) (i : ℕ) → i < length (zip3 xs ys zs) → getD (zip3 xs ys zs) i b ≡ f (getD xs i a) (getD ys i a) (getD zs i a)
-  unfolding zip3
-  zip3-at [] ys zs a b i h = absurd (not-suc-le-zero h)
-  zip3-at (x ∷ xs) [] zs a b i h = absurd (not-suc-le-zero h)
-  zip3-at (x ∷ xs) (y ∷ ys) [] a b i h = absurd (not-suc-le-zero h)
-  zip3-at (x ∷ xs) (y ∷ ys) (z ∷ zs) a b zero h = refl
-  zip3-at (x ∷ xs) (y ∷ ys) (z ∷ zs) a b (suc i) h = zip3-at xs ys zs a b i (le-of-suc-le-suc h)
+  pub place-hit : k < n → t k ≡ true → first t (drop k (upTo n)) ≡ some k
+  place-hit h e =
+      first-hit t 0 (upTo n) k (omega (arith, length-upTo n)) (ap t (getD-upTo n k 0 h) ∙ e)
+      ∙ ap some (getD-upTo n k 0 h)
 
--- ---- the inner offsets
+  pub place-end : n ≤ k → first t (drop k (upTo n)) ≡ none
+  place-end h = first-end t 0 (upTo n) k (omega (arith, length-upTo n))
 
-abbrev pub innerX : List ℤ
-innerX =
-    negsuc 0 ∷ negsuc 0 ∷ negsuc 0 ∷ negsuc 0 ∷ negsuc 0 ∷ negsuc 0 ∷ negsuc 0 ∷ negsuc 0 ∷ negsuc 0 ∷ pos 0 ∷
-    pos 0 ∷ pos 0 ∷ pos 0 ∷ pos 0 ∷ pos 0 ∷ pos 0 ∷ pos 0 ∷ pos 0 ∷ pos 1 ∷ pos 1 ∷ pos 1 ∷ pos 1 ∷ pos 1 ∷
-    pos 1 ∷ pos 1 ∷ pos 1 ∷ pos 1 ∷ []
+-- ---- a fit by a match
 
-abbrev pub innerY : List ℤ
-innerY =
-    negsuc 0 ∷ negsuc 0 ∷ negsuc 0 ∷ pos 0 ∷ pos 0 ∷ pos 0 ∷ pos 1 ∷ pos 1 ∷ pos 1 ∷ negsuc 0 ∷ negsuc 0 ∷
-    negsuc 0 ∷ pos 0 ∷ pos 0 ∷ pos 0 ∷ pos 1 ∷ pos 1 ∷ pos 1 ∷ negsuc 0 ∷ negsuc 0 ∷ negsuc 0 ∷ pos 0 ∷
-    pos 0 ∷ pos 0 ∷ pos 1 ∷ pos 1 ∷ pos 1 ∷ []
+pub fit-told : (m : Match) {n : Match} {i : ℕ} {d : Float} → m ≡ n → m ≡ Fits i d → true ≡ isFit n
+fit-told m e f = sym (ap isFit (sym e ∙ f))
 
-abbrev pub innerZ : List ℤ
-innerZ =
-    negsuc 0 ∷ pos 0 ∷ pos 1 ∷ negsuc 0 ∷ pos 0 ∷ pos 1 ∷ negsuc 0 ∷ pos 0 ∷ pos 1 ∷ negsuc 0 ∷ pos 0 ∷
-    pos 1 ∷ negsuc 0 ∷ pos 0 ∷ pos 1 ∷ negsuc 0 ∷ pos 0 ∷ pos 1 ∷ negsuc 0 ∷ pos 0 ∷ pos 1 ∷ negsuc 0 ∷
-    pos 0 ∷ pos 1 ∷ negsuc 0 ∷ pos 0 ∷ pos 1 ∷ []
+pub miss-told : (m : Match) {n : Match} → m ≡ n → m ≡ Misses → false ≡ isFit n
+miss-told m e f = sym (ap isFit (sym e ∙ f))
 
-abbrev point : ℤ → ℤ → ℤ → List ℤ
-point x y z = x ∷ y ∷ z ∷ []
+module _ (basis : RealMatrix) (symprec : Float) (m : ℕ) (p : Position) (cs : RealCandidates) where
+  pub other-count : (k : ℕ) → (getD (cs .multiplicities) k 0 ≡ m → ⊥) → false ≡ fitsReal basis symprec m p cs k
+  unfolding fitsReal
+  other-count k ne = rw (ne-eqb (getD (cs .multiplicities) k 0) m ne)
 
-pub inner-are : zip3 point innerX innerY innerZ ≡ take 27 offsets
-unfolding zip3 offsets all each those
-inner-are = refl
+  pub same-count :
+      (k : ℕ) (r : Bool) → getD (cs .multiplicities) k 0 ≡ m → r ≡ isFit (matchReal basis symprec (spaceAt cs k) p) →
+      r ≡ fitsReal basis symprec m p cs k
+  unfolding fitsReal
+  same-count k r e h = rw (eq-eqb (getD (cs .multiplicities) k 0) m e) h
 
-inner-count : length (zip3 point innerX innerY innerZ) ≡ 27
-unfolding zip3
-inner-count = refl
+  module _ (letters : List ℕ) where
+    pub found-letter :
+        (k r : ℕ) → first (fitsReal basis symprec m p cs) (upTo (length (cs .multiplicities))) ≡ some k → r
+        ≡ getD letters k 0 → r < 256 →
+        Notes (foundReal basis symprec m p cs letters) r
+    unfolding foundReal
+    found-letter k r e is small = rw e (is, omega arith)
 
--- a function of the offset at place k, by the tables
-module _ (f : Position → Float) (k : ℕ) (h : k < 27) where
-  pub inner-at :
-      f (record { x = realOf (getD innerX k (pos 0)); y = realOf (getD innerY k (pos 0)); z = realOf (getD innerZ k (pos 0)) })
-      ≡ getD (map (λ o. f (pointOf o)) (take 27 offsets)) k nan
-  inner-at =
-      let b : k < length (zip3 point innerX innerY innerZ) = omega (arith, inner-count) in
-      ap (λ o. f (pointOf o)) (sym (zip3-at point innerX innerY innerZ (pos 0) [] k b))
-      ∙ sym (map-at (λ o. f (pointOf o)) (zip3 point innerX innerY innerZ) k [] nan b)
-      ∙ ap (λ l. getD (map (λ o. f (pointOf o)) l) k nan) inner-are
+    pub found-none :
+        first (fitsReal basis symprec m p cs) (upTo (length (cs .multiplicities))) ≡ none →
+        Notes (foundReal basis symprec m p cs letters) no-letter
+    unfolding foundReal
+    found-none e = rw e refl
 
--- what the search says of that place, from its square s
-pub inner-tried :
-    (symprec : Float) (f : Position → Float) (k : ℕ) → k < 27 → (r : Match) (s x y z : Float) → r ≡ firstNear symprec k (s ∷ []) →
-    s ≡ f (record { x = x; y = y; z = z }) → x ≡ realOf (getD innerX k (pos 0)) → y ≡ realOf (getD innerY k (pos 0)) → z ≡ realOf (getD innerZ k (pos 0)) →
-    r ≡ firstNear symprec k (getD (map (λ o. f (pointOf o)) (take 27 offsets)) k nan ∷ [])
-inner-tried symprec f k h r s x y z e g a b c =
-    e ∙ ap (λ t. firstNear symprec k (t ∷ [])) (g ∙ (λ i. f (record { x = a i; y = b i; z = c i })) ∙ inner-at f k h)
+-- ---- what a cell says
 
-pub inner-long : (f : Position → Float) → length (map (λ o. f (pointOf o)) (take 27 offsets)) ≡ 27
-inner-long f = length-map (take 27 offsets) (λ o. f (pointOf o)) ∙ ap length (sym inner-are) ∙ inner-count
+pub cell-empty : (table : List ℕ) (l r : ℕ) → r ≡ l → getD table r 0 ≡ no-letter → isNoted table l ≡ false
+cell-empty table l r e h = ap not (eq-eqb (getD table l 0) no-letter (ap (λ k. getD table k 0) (sym e) ∙ h))
 
--- ---- the outer offsets
+pub cell-full : (table : List ℕ) (l r : ℕ) → r ≡ l → (getD table r 0 ≡ no-letter → ⊥) → isNoted table l ≡ true
+cell-full table l r e h = ap not (ne-eqb (getD table l 0) no-letter (λ q. h (ap (λ k. getD table k 0) e ∙ q)))
 
-abbrev minusTwo : Float
-minusTwo = ofBits binary64 0xC000000000000000
+noted-none : (o : Option ℕ) (c : ℕ) → Notes o c → c ≡ no-letter → o ≡ none
+noted-none none c h e = refl
+noted-none (some b) c h e = absurd (omega (arith, h))
 
-abbrev minusOne : Float
-minusOne = ofBits binary64 0xBFF0000000000000
+noted-some : (o y : Option ℕ) (c : ℕ) → Notes o c → (c ≡ no-letter → ⊥) → orElse o y ≡ o
+noted-some none y c h f = absurd (f h)
+noted-some (some b) y c h f = refl
 
-abbrev two : Float
-two = ofBits binary64 0x4000000000000000
+pub letter-small : (o : Option ℕ) (c : ℕ) → Notes o c → (c ≡ no-letter → ⊥) → c < 256
+letter-small none c h f = absurd (f h)
+letter-small (some b) c h f = omega (arith, h)
 
-abbrev pub outerX : List Float
-outerX =
-    minusTwo ∷ minusTwo ∷ minusTwo ∷ minusTwo ∷ minusTwo ∷ minusTwo ∷ minusTwo ∷ minusTwo ∷ minusTwo ∷
-    minusTwo ∷ minusTwo ∷ minusTwo ∷ minusTwo ∷ minusTwo ∷ minusTwo ∷ minusTwo ∷ minusTwo ∷ minusTwo ∷
-    minusTwo ∷ minusTwo ∷ minusTwo ∷ minusTwo ∷ minusTwo ∷ minusTwo ∷ minusTwo ∷ minusOne ∷ minusOne ∷
-    minusOne ∷ minusOne ∷ minusOne ∷ minusOne ∷ minusOne ∷ minusOne ∷ minusOne ∷ minusOne ∷ minusOne ∷
-    minusOne ∷ minusOne ∷ minusOne ∷ minusOne ∷ minusOne ∷ zeroF ∷ zeroF ∷ zeroF ∷ zeroF ∷ zeroF ∷ zeroF ∷
-    zeroF ∷ zeroF ∷ zeroF ∷ zeroF ∷ zeroF ∷ zeroF ∷ zeroF ∷ zeroF ∷ zeroF ∷ zeroF ∷ oneF ∷ oneF ∷ oneF ∷
-    oneF ∷ oneF ∷ oneF ∷ oneF ∷ oneF ∷ oneF ∷ oneF ∷ oneF ∷ oneF ∷ oneF ∷ oneF ∷ oneF ∷ oneF ∷ two ∷ two ∷
-    two ∷ two ∷ two ∷ two ∷ two ∷ two ∷ two ∷ two ∷ two ∷ two ∷ two ∷ two ∷ two ∷ two ∷ two ∷ two ∷ two ∷
-    two ∷ two ∷ two ∷ two ∷ two ∷ two ∷ []
+pub are-noted : (letter : ℕ → Option ℕ) (table : List ℕ) → NotesAll letter table → AreNoted table
+are-noted letter table h l b f = letter-small (letter l) (getD table l 0) (h l b) f
 
-abbrev pub outerY : List Float
-outerY =
-    minusTwo ∷ minusTwo ∷ minusTwo ∷ minusTwo ∷ minusTwo ∷ minusOne ∷ minusOne ∷ minusOne ∷ minusOne ∷
-    minusOne ∷ zeroF ∷ zeroF ∷ zeroF ∷ zeroF ∷ zeroF ∷ oneF ∷ oneF ∷ oneF ∷ oneF ∷ oneF ∷ two ∷ two ∷ two ∷
-    two ∷ two ∷ minusTwo ∷ minusTwo ∷ minusTwo ∷ minusTwo ∷ minusTwo ∷ minusOne ∷ minusOne ∷ zeroF ∷ zeroF ∷
-    oneF ∷ oneF ∷ two ∷ two ∷ two ∷ two ∷ two ∷ minusTwo ∷ minusTwo ∷ minusTwo ∷ minusTwo ∷ minusTwo ∷
-    minusOne ∷ minusOne ∷ zeroF ∷ zeroF ∷ oneF ∷ oneF ∷ two ∷ two ∷ two ∷ two ∷ two ∷ minusTwo ∷ minusTwo ∷
-    minusTwo ∷ minusTwo ∷ minusTwo ∷ minusOne ∷ minusOne ∷ zeroF ∷ zeroF ∷ oneF ∷ oneF ∷ two ∷ two ∷ two ∷
-    two ∷ two ∷ minusTwo ∷ minusTwo ∷ minusTwo ∷ minusTwo ∷ minusTwo ∷ minusOne ∷ minusOne ∷ minusOne ∷
-    minusOne ∷ minusOne ∷ zeroF ∷ zeroF ∷ zeroF ∷ zeroF ∷ zeroF ∷ oneF ∷ oneF ∷ oneF ∷ oneF ∷ oneF ∷ two ∷
-    two ∷ two ∷ two ∷ two ∷ []
+-- ---- the walk
 
-abbrev pub outerZ : List Float
-outerZ =
-    minusTwo ∷ minusOne ∷ zeroF ∷ oneF ∷ two ∷ minusTwo ∷ minusOne ∷ zeroF ∷ oneF ∷ two ∷ minusTwo ∷
-    minusOne ∷ zeroF ∷ oneF ∷ two ∷ minusTwo ∷ minusOne ∷ zeroF ∷ oneF ∷ two ∷ minusTwo ∷ minusOne ∷ zeroF ∷
-    oneF ∷ two ∷ minusTwo ∷ minusOne ∷ zeroF ∷ oneF ∷ two ∷ minusTwo ∷ two ∷ minusTwo ∷ two ∷ minusTwo ∷ two ∷
-    minusTwo ∷ minusOne ∷ zeroF ∷ oneF ∷ two ∷ minusTwo ∷ minusOne ∷ zeroF ∷ oneF ∷ two ∷ minusTwo ∷ two ∷
-    minusTwo ∷ two ∷ minusTwo ∷ two ∷ minusTwo ∷ minusOne ∷ zeroF ∷ oneF ∷ two ∷ minusTwo ∷ minusOne ∷ zeroF ∷
-    oneF ∷ two ∷ minusTwo ∷ two ∷ minusTwo ∷ two ∷ minusTwo ∷ two ∷ minusTwo ∷ minusOne ∷ zeroF ∷ oneF ∷ two ∷
-    minusTwo ∷ minusOne ∷ zeroF ∷ oneF ∷ two ∷ minusTwo ∷ minusOne ∷ zeroF ∷ oneF ∷ two ∷ minusTwo ∷
-    minusOne ∷ zeroF ∷ oneF ∷ two ∷ minusTwo ∷ minusOne ∷ zeroF ∷ oneF ∷ two ∷ minusTwo ∷ minusOne ∷ zeroF ∷
-    oneF ∷ two ∷ []
+else-none : (o : Option ℕ) → orElse o none ≡ o
+else-none none = refl
+else-none (some b) = refl
 
-abbrev position : Float → Float → Float → Position
-position x y z = record { x = x; y = y; z = z }
+module _ (f : ℕ → Option ℕ) (labels : List ℕ) where
+  pub nothing-noted : NotesAll (walked f labels 0) (replicate most-listed no-letter)
+  unfolding walked
+  nothing-noted l h = getD-replicate most-listed l no-letter 0 h
 
-pub outer-are : zip3 position outerX outerY outerZ ≡ map pointOf (drop 27 offsets)
-unfolding zip3 offsets all each those ofBits ofInt round
-outer-are = refl
+  module _ (j : ℕ) (table : List ℕ) (noted : NotesAll (walked f labels j) table) where
+    abbrev label : ℕ
+    label = getD labels j 0
 
-outer-count : length (zip3 position outerX outerY outerZ) ≡ 98
-unfolding zip3
-outer-count = refl
+    -- another label is left as it was
+    others : (l : ℕ) → (label ≡ l → ⊥) → walked f labels (j + 1) l ≡ walked f labels j l
+    unfolding walked
+    others l ne = rw (add-one, ne-eqb label l ne) (else-none (walked f labels j l))
 
--- squares of the outer offsets, by the tables, are those of the definition's
-pub outer-squares :
-    (f : Position → Float) (l : List Float) → Column (λ i. f (cell outerX outerY outerZ i)) l → l ≡ map (λ o. f (pointOf o)) (drop 27 offsets)
-outer-squares f l c = ext-getD nan l (map f points) (c .long ∙ sym count) at ∙ ap (map f) outer-are ∙ map-map f pointOf (drop 27 offsets)
-  where
-    points : List Position
-    points = zip3 position outerX outerY outerZ
+    same : walked f labels (j + 1) label ≡ orElse (walked f labels j label) (f j)
+    unfolding walked
+    same = rw (add-one, eq-eqb label label refl)
 
-    count : length (map f points) ≡ 98
-    count = length-map points f ∙ outer-count
+    -- the label has a letter: the site is skipped
+    pub skipped : label < most-listed → (getD table label 0 ≡ no-letter → ⊥) → NotesAll (walked f labels (j + 1)) table
+    skipped b has l h = by (eqb label l) refl
+      where
+        by : (t : Bool) → eqb label l ≡ t → Notes (walked f labels (j + 1) l) (getD table l 0)
+        by true e =
+            let q : label ≡ l = eqb-true label l e in
+            subst (λ k. Notes (walked f labels (j + 1) k) (getD table k 0)) q
+            (rw (same, noted-some (walked f labels j label) (f j) (getD table label 0) (noted label b) has)
+            (noted label b))
+        by false e = rw (others l (eqb-false label l e)) (noted l h)
 
-    at : (i : ℕ) → i < length l → getD l i nan ≡ getD (map f points) i nan
-    at i h =
-        let k : i < 98 = omega (arith, c .long) in
-        let b : i < length points = omega (arith, outer-count) in
-        c .each i k ∙ ap f (sym (zip3-at position outerX outerY outerZ nan origin i b)) ∙ sym (map-at f points i origin nan b)
-
--- ---- all of them
-
-module _ (basis : RealMatrix) (symprec : Float) (s : RealSpace) (p : Position) where
-  abbrev pub squaresOf : List (List ℤ) → List Float
-  squaresOf = map (λ o. squareReal basis s p (pointOf o))
-
-  split : matchReal basis symprec s p ≡ firstNear symprec 0 (squaresOf (take 27 offsets) ++ squaresOf (drop 27 offsets))
-  unfolding matchReal squaresReal
-  split =
-      ap (λ l. firstNear symprec 0 (squaresOf l)) (sym (take-append-drop 27 offsets))
-      ∙ ap (firstNear symprec 0) (map-append (λ o. squareReal basis s p (pointOf o)) (take 27 offsets) (drop 27 offsets))
-
-  module _ (m : Match) (e : m ≡ firstNear symprec 0 (squaresOf (take 27 offsets))) where
-    pub inner-fits : (k : ℕ) (d : Float) → m ≡ Fits k d → Fits k d ≡ matchReal basis symprec s p
-    inner-fits k d f = sym (split ∙ append-fits symprec (squaresOf (drop 27 offsets)) 0 (squaresOf (take 27 offsets)) k d (sym e ∙ f))
-
-    pub inner-misses : (r : Match) → m ≡ Misses → r ≡ firstNear symprec 27 (squaresOf (drop 27 offsets)) → r ≡ matchReal basis symprec s p
-    inner-misses r f g =
-        let n : 0 + length (squaresOf (take 27 offsets)) ≡ 27 = omega (arith, inner-long (squareReal basis s p)) in
-        g ∙ sym (split ∙ append-misses symprec (squaresOf (drop 27 offsets)) 0 (squaresOf (take 27 offsets)) (sym e ∙ f) ∙ ap (λ k. firstNear symprec k (squaresOf (drop 27 offsets))) n)
+    -- it has none: what is found at the site is its
+    pub noted-more :
+        label < most-listed → length table ≡ most-listed → getD table label 0 ≡ no-letter → (r : ℕ) → Notes (f j) r →
+        NotesAll (walked f labels (j + 1)) (set table label r)
+    noted-more b size clear r is l h = by (eqb label l) refl
+      where
+        by : (t : Bool) → eqb label l ≡ t → Notes (walked f labels (j + 1) l) (getD (set table label r) l 0)
+        by true e =
+            let q : label ≡ l = eqb-true label l e in
+            let at : getD (set table label r) label 0 ≡ r = getD-set-same table label r 0 (omega arith) in
+            subst (λ k. Notes (walked f labels (j + 1) k) (getD (set table label r) k 0)) q
+            (rw (same, noted-none (walked f labels j label) (getD table label 0) (noted label b) clear, at) is)
+        by false e =
+            let ne : label ≡ l → ⊥ = eqb-false label l e in
+            let at : getD (set table label r) l 0 ≡ getD table l 0 =
+            getD-set-other table label l r 0 (λ q. ne (sym q)) in
+            rw (others l ne, at) (noted l h)

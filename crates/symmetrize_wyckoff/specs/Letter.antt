@@ -8,7 +8,7 @@ use lib.Dec.{T}
 use Rattle.definitions.specs.Lists.{any}
 use Rattle.definitions.specs.Refusal.{Applies, upto, precedence, Past, orbit-fit, Outcome, accepted, refused, Returns}
 use Rattle.definitions.specs.Lent.{badImages}
-use Rattle.definitions.specs.Wyckoff.{Lettering, Found, Unfit, sitesOf, letters}
+use Rattle.definitions.specs.Wyckoff.{textsOf, AreSpaces, Lettering, Found, Unfit, sitesOf, letters}
 use Rattle.definitions.specs.Orbit.{multiplicities}
 use Rattle.definitions.specs.SiteCalls.{LetterArguments, designFrom, candidatesIn, permutationsIn, badMapping, letterConditions, LetterCells}
 use Rattle.definitions.specs.SiteCalls.{letterRooms, IsLettered, HoldsLetters, nothingLettered, LetterAnswered}
@@ -19,7 +19,7 @@ use Rattle.laws.specs.Verdicts.{answered-returns}
 use Rattle.base_cell.specs.Maps.{Permutations}
 use Rattle.base_cell.specs.Labelling.{given-permutations, given-labels}
 use Rattle.symmetrize_wyckoff.specs.Unique.{equal-sites}
-use Rattle.symmetrize_wyckoff.specs.Spaces.{spaces-found}
+use Rattle.symmetrize_wyckoff.specs.Spaces.{spaces-found, alike-texts}
 use Rattle.symmetrize_wyckoff.specs.Lettered.{Letters, demand-of-lettering}
 
 abbrev pub letterCall : LetteringCall
@@ -45,6 +45,11 @@ module _ (x : LetterArguments) (rooms : List ℕ) (past : Past orbit-fit (letter
   unfolding FailBefore any upto precedence
   not-five = off _ (past-before orbit-fit (letterConditions x rooms) past .1 .1 .0 tt)
 
+  -- past 2, the candidates' lists belong together
+  texts-are : textsOf (candidatesIn x) ≡ x .texts
+  unfolding FailBefore any upto precedence
+  texts-are = alike-texts x (off _ (past-before orbit-fit (letterConditions x rooms) past .0 tt))
+
   permute : Permutations (x .labelling .sites) (permutationsIn (x .labelling))
   permute = given-permutations (x .labelling) (neither-left _ _ not-five)
 
@@ -52,11 +57,16 @@ module _ (x : LetterArguments) (rooms : List ℕ) (past : Past orbit-fit (letter
   design-found : Found (designFrom x)
   unfolding FailBefore any upto precedence
   design-found =
-      let s = spaces-found (candidatesIn x) (past-before orbit-fit (letterConditions x rooms) past .1 .1 .1 .0 tt) in
+      let s = spaces-found (x .texts) (past-before orbit-fit (letterConditions x rooms) past .1 .1 .1 .0 tt) in
       let l =
       given-labels (x .labelling) (neither-left _ _ not-five)
       (neither-right (badImages (x .labelling .sites) (x .labelling .count) (x .labelling .images)) _ not-five) in
-      record { spaces = s .0; are-spaces = s .1; labels = l .0; are-labels = l .1 }
+      record {
+        spaces = s .0;
+        are-spaces = subst (λ ts. AreSpaces ts (s .0)) (sym texts-are) (s .1);
+        labels = l .0;
+        are-labels = l .1;
+      }
 
   -- 13 applies to a design without a fit, and to no other
   unfit-applies : Unfit (designFrom x) → Applies (letterConditions x rooms) orbit-fit

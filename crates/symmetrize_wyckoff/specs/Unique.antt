@@ -6,10 +6,9 @@ use mathlib.Core.List.{List, [], _∷_}
 use Rattle.definitions.specs.Snf.{Run}
 use Rattle.math_snf_laws.specs.Unique.{run-unique}
 use Rattle.definitions.specs.Coordinates.{Triplet, rows, originOf}
-use Rattle.definitions.specs.Job.{Candidate}
-use Rattle.definitions.specs.Wyckoff.{Space, IsSpace, AreSpaces, Lettering, Found, sitesOf, choices}
+use Rattle.definitions.specs.Wyckoff.{Space, IsSpace, textsOf, AreSpaces, Lettering, Found, sitesOf, choices}
 use Rattle.data_wyckoff.specs.Reading.{read-unique}
-use Rattle.definitions.specs.Orbit.{Labels}
+use Rattle.definitions.specs.Orbit.{Labels, multiplicities}
 use Rattle.definitions.specs.Demand.{Alike, JoinTheSame}
 use Rattle.base_cell.specs.Labels.{labels-unique, same-joins-same-labels}
 
@@ -32,26 +31,42 @@ space-unique {text} {s} {s′} a b = λ i. record { matrix = m i; shift = q i; s
     d : s .snf ≡ s′ .snf
     d = a .snf ∙ same-end (a .triplet) (b .triplet) e (a .run) (b .run) ∙ sym (b .snf)
 
-pub spaces-unique : (ws : List Candidate) (ss ss′ : List Space) → AreSpaces ws ss → AreSpaces ws ss′ → ss ≡ ss′
+pub spaces-unique : (ts : List (List ℕ)) (ss ss′ : List Space) → AreSpaces ts ss → AreSpaces ts ss′ → ss ≡ ss′
 unfolding AreSpaces
 spaces-unique [] [] [] a b = refl
 spaces-unique [] [] (s ∷ ss) a b = absurd b
 spaces-unique [] (s ∷ ss) ss′ a b = absurd a
-spaces-unique (w ∷ ws) [] ss′ a b = absurd a
-spaces-unique (w ∷ ws) (s ∷ ss) [] a b = absurd b
-spaces-unique (w ∷ ws) (s ∷ ss) (s′ ∷ ss′) a b = ap₂ (λ x y. x ∷ y) (space-unique (a .0) (b .0)) (spaces-unique ws ss ss′ (a .1) (b .1))
+spaces-unique (t ∷ ts) [] ss′ a b = absurd a
+spaces-unique (t ∷ ts) (s ∷ ss) [] a b = absurd b
+spaces-unique (t ∷ ts) (s ∷ ss) (s′ ∷ ss′) a b =
+    ap₂ (λ x y. x ∷ y) (space-unique (a .0) (b .0)) (spaces-unique ts ss ss′ (a .1) (b .1))
 
 -- the sites of a design, with labels and spaces
 pub sites-unique : {g : Lettering} (f f′ : Found g) → sitesOf f ≡ sitesOf f′
 sites-unique {g} f f′ =
-    ap₂ (λ ls ss. record { positions = g .positions; labels = ls; basis = g .basis; choices = choices (g .candidates) ss; symprec = g .symprec })
+    ap₂ (λ ls ss.
+    record {
+      positions = g .positions;
+      labels = ls;
+      multiplicities = multiplicities ls;
+      basis = g .basis;
+      choices = choices (g .candidates) ss;
+      symprec = g .symprec;
+    })
     (labels-unique (f .are-labels) (f′ .are-labels))
-    (spaces-unique (g .candidates) (f .spaces) (f′ .spaces) (f .are-spaces) (f′ .are-spaces))
+    (spaces-unique (textsOf (g .candidates)) (f .spaces) (f′ .spaces) (f .are-spaces) (f′ .are-spaces))
 
 -- designs that are alike, whose permutations join the same sites
 pub alike-sites : {g g′ : Lettering} → Alike g g′ → JoinTheSame (g .permutations) (g′ .permutations) → (f : Found g) (f′ : Found g′) → sitesOf f ≡ sitesOf f′
 alike-sites {g} {g′} a same f f′ = λ i.
-    record { positions = a .positions i; labels = ls i; basis = a .basis i; choices = choices (a .candidates i) (ss i); symprec = a .symprec i }
+    record {
+      positions = a .positions i;
+      labels = ls i;
+      multiplicities = multiplicities (ls i);
+      basis = a .basis i;
+      choices = choices (a .candidates i) (ss i);
+      symprec = a .symprec i;
+    }
   where
     ls : f .labels ≡ f′ .labels
     ls =
@@ -60,7 +75,9 @@ alike-sites {g} {g′} a same f f′ = λ i.
         (f′ .are-labels)
 
     ss : f .spaces ≡ f′ .spaces
-    ss = spaces-unique (g′ .candidates) (f .spaces) (f′ .spaces) (subst (λ ws. AreSpaces ws (f .spaces)) (a .candidates) (f .are-spaces)) (f′ .are-spaces)
+    ss =
+        spaces-unique (textsOf (g′ .candidates)) (f .spaces) (f′ .spaces)
+        (subst (λ ws. AreSpaces (textsOf ws) (f .spaces)) (a .candidates) (f .are-spaces)) (f′ .are-spaces)
 
 -- one design
 pub equal-sites : {g g′ : Lettering} → g ≡ g′ → (f : Found g) (f′ : Found g′) → sitesOf f ≡ sitesOf f′

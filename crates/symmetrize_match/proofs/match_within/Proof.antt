@@ -1,0 +1,31 @@
+-- `match_within` meets its contract: the inner offsets stand before the outer ones.
+use Rattle.symmetrize_match.specs.Match.{spaceOf}
+use Rattle.symmetrize_match.proofs.Tables.{inner-fits, inner-misses}
+use borrow.Author.Needs.{needs}
+use Rattle.symmetrize_match.proofs.match_within.Statement.{statement}
+use Rattle.symmetrize_match.proofs.match_within.Tie as tie
+use Rattle.symmetrize_match.proofs.match_within.Reads as reads
+use Rattle.symmetrize_match.proofs.match_within.Lts as lts
+use Rattle.symmetrize_match.proofs.inner.match_inner.Reads as match-inner-reads
+use Rattle.symmetrize_match.proofs.outer.match_outer.Reads as match-outer-reads
+
+-- src/lib.rt:15:1
+returns : tie.Need-returns
+returns c =
+    let a = c .before .before .before .before .args in
+    let s = spaceOf (a .matrix) (a .shift) (a .diagonal) (a .left) (a .right) in
+    let m = c .before .before .before .match-inner in
+    inner-fits (a .basis) (a .symprec) s (a .position) (m .result) (m .ensures) _ _ (search needs)
+
+-- src/lib.rt:15:1
+returns-2 : tie.Need-returns-2
+returns-2 c =
+    let a = c .before .before .before .before .args in
+    let s = spaceOf (a .matrix) (a .shift) (a .diagonal) (a .left) (a .right) in
+    let m = c .before .before .before .match-inner in
+    inner-misses (a .basis) (a .symprec) s (a .position) (m .result) (m .ensures) (c .match-outer .result) (search needs) (c .match-outer .ensures)
+
+pub match-within-spec : {M : Type 1} → statement M
+match-within-spec =
+    tie.close
+    (tie.spec (λ c κs. search needs) (λ c. search needs) (λ c. search needs) (λ c κs. search needs) returns returns-2)
