@@ -1,0 +1,2 @@
+-- What the functions here speak of.
+pub mod Aligning
