@@ -1,5 +1,5 @@
 -- What the diagonalisation says of its matrix, and what is known once the points are not refused.
-use Prim.Native.Nat.{ℕ}
+use Prim.Native.Nat.{ℕ, _≤_, _<_}
 use mathlib.Core.Path.{_≡_, refl, sym, ap, subst, _∙_}
 use mathlib.Core.Bool.{Bool, true, false, not}
 use mathlib.Core.List.{List}
@@ -42,15 +42,18 @@ snf-refuses c e k r = by (eqb 3 k) (eqb 8 k) (subst (λ (b : Bool). T (not b)) e
 
 -- ---- the verdict on the points
 
-module _ (c : Matrix) (room : ℕ) (accepted : Checked (pointsConditions c room) Accepted) where
-  pub ready : Three c → (d l : Matrix) → Ended c d l → Ready d room
-  ready h d l e = subst (λ (t : State). Ready (t .d) room) (e .1 .1) run
-    where
-      run : Ready (e .1 .0 .third .d) room
-      run =
-          let (x, y, z) = points-facts c room accepted in
-          let n = product (e .1 .0) h in
-          record { some = omega arith; few = omega arith; fits = omega arith }
+-- from 1 to 64 copies, for which there is room: so many points
+pub ready-of : (c : Matrix) (room : ℕ) → (0 < copies c) × (copies c ≤ 64) × (copies c ≤ room) → Three c → (d l : Matrix) → Ended c d l → Ready d room
+ready-of c room f h d l e = subst (λ (t : State). Ready (t .d) room) (e .1 .1) run
+  where
+    run : Ready (e .1 .0 .third .d) room
+    run =
+        let (x, y, z) = f in
+        let n = product (e .1 .0) h in
+        record { some = omega arith; few = omega arith; fits = omega arith }
+
+pub ready : (c : Matrix) (room : ℕ) → Checked (pointsConditions c room) Accepted → Three c → (d l : Matrix) → Ended c d l → Ready d room
+ready c room accepted = ready-of c room (points-facts c room accepted)
 
 -- ---- the invariant factors
 

@@ -1,2 +1,5 @@
 pub mod Points
 pub mod Accepted
+pub mod Laying
+pub mod Listable
+pub mod Listing

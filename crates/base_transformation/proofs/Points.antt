@@ -46,9 +46,13 @@ points-of : (t : State) → points t ≡ pointsOf (t .d) (t .l)
 unfolding points
 points-of t = refl
 
+-- the points of a run are those of its D and L
+pub run-points : (c d l : Matrix) (e : Ended c d l) → points (e .1 .0 .third) ≡ pointsOf d l
+run-points c d l e = ap points (e .1 .1) ∙ points-of (record { d = d; l = l; r = e .0 })
+
 pub points-lent : (c d l : Matrix) (entry exit : List (List ℤ)) → Ended c d l → exit ≡ padded zeroPoint (pointsOf d l) (length entry) → PointsLent c entry exit Accepted
 points-lent c d l entry exit e f =
-    (e .1 .0, f ∙ ap (λ (ps : List (List ℤ)). padded zeroPoint ps (length entry)) (sym (ap points (e .1 .1) ∙ points-of (record { d = d; l = l; r = e .0 }))))
+    (e .1 .0, f ∙ ap (λ (ps : List (List ℤ)). padded zeroPoint ps (length entry)) (sym (run-points c d l e)))
 
 module _ (d l : Matrix) (a b c : ℕ) (x : a ≡ natAbs (at d 0 0)) (y : b ≡ natAbs (at d 1 1)) (z : c ≡ natAbs (at d 2 2)) (entry : List (List ℤ)) (ready : Ready d (length entry)) where
   pub listed-facts : (0 < a * b * c) × (a * b * c ≤ 64) × (a * b * c ≤ length entry)

@@ -6,3 +6,5 @@ pub mod Covered
 pub mod Answers
 pub mod Lent
 pub mod Listed
+pub mod Runs
+pub mod Copied

@@ -1,5 +1,7 @@
 // moyo's base/transformation.rs, its whole-number parts: a rotation in another basis, and the points of the
 // conventional cell, one for each class of whole translations.
+pub mod cell;
+
 ghost use Prim.Native.Nat.{_*_, _/_, _%_, _≤_, _<_};
 ghost use mathlib.Core.Path.{_≡_};
 ghost use mathlib.Core.Bool.{true};
@@ -35,7 +37,7 @@ use math_matrix::inverse;
 use math_matrix::transform;
 use math_snf::snf;
 
-const ZERO: SnfMatrix = [[0, 0, 0], [0, 0, 0], [0, 0, 0]];
+pub(crate) const ZERO: SnfMatrix = [[0, 0, 0], [0, 0, 0], [0, 0, 0]];
 
 // ---- a rotation in another basis
 
@@ -109,7 +111,7 @@ fn put_points(m: Cofactors, a: usize, b: usize, c: usize, out: &mut [Point]) -> 
 }
 
 // the points and zero behind them
-fn list_points(d: SnfMatrix, l: SnfMatrix, out: &mut [Point])
+pub(crate) fn list_points(d: SnfMatrix, l: SnfMatrix, out: &mut [Point])
     requires { ⌜ Ready d (length (now out)) ⌝ }
     ensures { λ _. ⌜ now (out .exit) ≡ padded zeroPoint (pointsOf d l) (length (now (out .entry))) ⌝ }
 {
@@ -124,7 +126,7 @@ fn list_points(d: SnfMatrix, l: SnfMatrix, out: &mut [Point])
 // ---- the verdict on the points
 
 // whether the diagonalisation keeps within its range, with its D and L
-fn diagonalise(c: Linear, d: &mut SnfMatrix, l: &mut SnfMatrix) -> bool
+pub(crate) fn diagonalise(c: Linear, d: &mut SnfMatrix, l: &mut SnfMatrix) -> bool
     requires { ⌜ inRange c ≡ true ⌝ }
     ensures { λ ok. ⌜ Diagonalised c (now (d .exit)) (now (l .exit)) ok ⌝ }
 {
