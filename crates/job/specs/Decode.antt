@@ -147,7 +147,7 @@ not-a-job bs e p j = Option·none-ne-some p (sym e ∙ job-decodes bs p j)
 
 -- ---- what is read is the job
 
-ending-is : (o : Option (Parts × List ℕ)) (p : Parts) → ending o ≡ some p → o ≡ some (p, [])
+pub ending-is : (o : Option (Parts × List ℕ)) (p : Parts) → ending o ≡ some p → o ≡ some (p, [])
 ending-is none p e = absurd (Option·none-ne-some p e)
 ending-is (some x) p e = go (x .1) e
   where

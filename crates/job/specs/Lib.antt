@@ -2,3 +2,7 @@
 pub mod Reader
 pub mod Decode
 pub mod Worked
+pub mod Places
+pub mod Words
+pub mod Counted
+pub mod Given

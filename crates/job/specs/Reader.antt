@@ -37,7 +37,7 @@ pub record Inverse {A : Type 0} (cs : List ℕ) (holds : A → Bool) (print : A 
 
 -- ---- words on tests and answers
 
-same-read : {A : Type 0} {a a′ : A} {k k′ : List ℕ} → _≡_ {A = Option (A × List ℕ)} (some (a, k)) (some (a′, k′)) → (a ≡ a′) × (k ≡ k′)
+pub same-read : {A : Type 0} {a a′ : A} {k k′ : List ℕ} → _≡_ {A = Option (A × List ℕ)} (some (a, k)) (some (a′, k′)) → (a ≡ a′) × (k ≡ k′)
 same-read {a} {a′} {k} {k′} e =
     let p = Option·some-injective (a, k) (a′, k′) e in
     (ap (λ r. r .0) p, ap (λ r. r .1) p)
