@@ -22,7 +22,7 @@ use Rattle.definitions.specs.Permutation.{isPermutation, permutationAt}
 use Rattle.definitions.specs.Transformation.{operationFor, rotationAbsent, targetAbsent, rotationsOf, isNone, permutationOr, alignedTo, transformPosition, transformed, aligned}
 use Rattle.definitions.specs.Symmetrization.{symmetrizedAt, symmetrized, primitivePositions}
 use Rattle.definitions.specs.Cell.{siteMapping}
-use Rattle.definitions.specs.Wyckoff.{Found}
+use Rattle.definitions.specs.Wyckoff.{textsOf, Found}
 use Rattle.definitions.specs.Standardize.{siteCount, BadCoordinates, badImage, Rooms, jobConditions, letteringOf, Work}
 use Rattle.laws.specs.Tests.{passed, off, neither-left, neither-right}
 use Rattle.laws.specs.Lists.{all-cons, all-head, all-tail, all-mem, from-upTo, in-upTo, length-upFrom}
@@ -100,7 +100,7 @@ module _ {A : Type 0} (t : A → Bool) where
   all-each f [] h = tt
   all-each f (b ∷ l) h = all-append (f b) (each f l) (h b (List·Memᴰ·head refl)) (all-each f l (λ c m. h c (List·Memᴰ·tail m)))
 
-mapping-pass : (n m : ℕ) → T (all (λ i. ltb i n) (siteMapping n m))
+pub mapping-pass : (n m : ℕ) → T (all (λ i. ltb i n) (siteMapping n m))
 unfolding siteMapping
 mapping-pass n m = all-each (λ i. ltb i n) (λ i. replicate m i) (upTo n) (λ i h. all-replicate (λ i. ltb i n) m i (lt→ltb i n (from-upTo n i h)))
 
@@ -118,7 +118,7 @@ module _ (j : Job) (rooms : Rooms) (past : Past orbit-fit (jobConditions j rooms
   unfolding FailBefore any upto precedence
   images-pass = passed (all permutes (upTo (length (j .operations)))) (before .1 .1 .1 .0 tt)
 
-  readable : BadCoordinates (j .candidates) → ⊥
+  readable : BadCoordinates (textsOf (j .candidates)) → ⊥
   unfolding FailBefore any upto precedence
   readable = before .1 .1 .1 .1 .0 tt
 
@@ -134,7 +134,7 @@ module _ (j : Job) (rooms : Rooms) (past : Past orbit-fit (jobConditions j rooms
       let some : copies (j .c) ≡ 0 → ⊥ = eqb-false _ _ (neither-left (eqb (copies (j .c)) 0) _ bad) in
       omega arith
 
-  aligned-all : T (all (isPermutation (siteCount j)) (aligned j))
+  pub aligned-all : T (all (isPermutation (siteCount j)) (aligned j))
   aligned-all = aligned-pass (siteCount j) (j .t) (rotationsOf (j .operations)) (j .images) perm (rotationsOf (j .targets)) targets-present
     where
       perm : (k : ℕ) → k < length (rotationsOf (j .operations)) → T (permutes k)
@@ -148,7 +148,7 @@ module _ (j : Job) (rooms : Rooms) (past : Past orbit-fit (jobConditions j rooms
   -- what is found of the design, with any run of C
   pub design-found : (r : Run (j .c)) → Found (letteringOf j r)
   design-found r =
-      let s = spaces-found (j .candidates) readable in
+      let s = spaces-found (textsOf (j .candidates)) readable in
       record {
         spaces = s .0;
         are-spaces = s .1;

@@ -4,3 +4,4 @@ pub mod Same
 pub mod Calls
 pub mod Answers
 pub mod Whole
+pub mod Stages

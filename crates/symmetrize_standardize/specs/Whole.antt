@@ -20,7 +20,7 @@ use Rattle.symmetrize_standardize.specs.Calls.{BytesArguments, bytesCall
 use Rattle.symmetrize_standardize.specs.Answers.{Answers, demand-of-whole}
 
 -- what a call returns under conditions that apply alike
-returns-alike :
+pub returns-alike :
     {A : Type 0} (cs ds : List Condition) (Is : A → Type 0) → ((k : ℕ) → Applies cs k → Applies ds k) → ((k : ℕ) → Applies ds k → Applies cs k) →
     (o : Outcome A) → Returns cs Is o → Returns ds Is o
 unfolding Returns
@@ -108,20 +108,19 @@ module _ (bs : List ℕ) (rooms : Rooms) (p : Parts) (i : IsJob bs p) (j : Job) 
   to-parts : (P : Job → Type 0) → P j → OfParts bs (λ q. P (jobOf q))
   to-parts P h = (p, i, subst P (sym e) h)
 
-  job-to-bytes : (k : ℕ) → Applies (jobConditions j rooms) k → Applies (bytesConditions bs rooms) k
+  pub job-to-bytes : (k : ℕ) → Applies (jobConditions j rooms) k → Applies (bytesConditions bs rooms) k
   job-to-bytes k a =
       later-applies head-1 rest k
       (applies-rules (λ r. r .holds j) (λ r. OfParts bs (ofParts r .holds)) (λ r. to-parts (r .holds)) (rules rooms) k a)
 
-  module _ (past : Past orbit-fit (bytesConditions bs rooms)) where
-    is-job : NoJob bs → ⊥
-    unfolding Applies any upto precedence
-    is-job n = none-of (bytesConditions bs rooms) (upto orbit-fit precedence) job-bytes tt past (inl n)
+  pub bytes-to-job : (NoJob bs → ⊥) → (k : ℕ) → Applies (bytesConditions bs rooms) k → Applies (jobConditions j rooms) k
+  bytes-to-job is-job k a =
+      applies-rules (λ r. OfParts bs (ofParts r .holds)) (λ r. r .holds j) (λ r. of-parts (r .holds)) (rules rooms) k
+      (applies-later head-1 rest k is-job a)
 
-    bytes-to-job : (k : ℕ) → Applies (bytesConditions bs rooms) k → Applies (jobConditions j rooms) k
-    bytes-to-job k a =
-        applies-rules (λ r. OfParts bs (ofParts r .holds)) (λ r. r .holds j) (λ r. of-parts (r .holds)) (rules rooms) k
-        (applies-later head-1 rest k is-job a)
+  is-job : Past orbit-fit (bytesConditions bs rooms) → NoJob bs → ⊥
+  unfolding Applies any upto precedence
+  is-job past n = none-of (bytesConditions bs rooms) (upto orbit-fit precedence) job-bytes tt past (inl n)
 
   bytes-past : Past orbit-fit (bytesConditions bs rooms) → Past orbit-fit (jobConditions j rooms)
   bytes-past = none-over (jobConditions j rooms) (bytesConditions bs rooms) job-to-bytes (upto orbit-fit precedence)
@@ -131,7 +130,7 @@ module _ (bs : List ℕ) (rooms : Rooms) (p : Parts) (i : IsJob bs p) (j : Job) 
   job-returns past (accepted a) h =
       (none-over (jobConditions j rooms) (bytesConditions bs rooms) job-to-bytes precedence (h .0), of-parts (λ k. IsAnswer k a) (h .1))
   job-returns past (refused k) h =
-      (bytes-to-job past k (h .0), none-over (jobConditions j rooms) (bytesConditions bs rooms) job-to-bytes (upto k precedence) (h .1))
+      (bytes-to-job (is-job past) k (h .0), none-over (jobConditions j rooms) (bytesConditions bs rooms) job-to-bytes (upto k precedence) (h .1))
 
 three-of : (p : Parts) → Three (jobOf p .c)
 unfolding jobOf

@@ -1,0 +1,133 @@
+-- `standardize`: what `answer` promises, and every lent list cleared after a refusal.
+use mathlib.Core.Path.{_∙_}
+use Rattle.definitions.specs.WholeCalls.{Given, AnswerCells}
+use Rattle.symmetrize_standardize.proofs.Assembled.{cleared-from, promise-refused, promise-accepted}
+use borrow.Author.Needs.{needs}
+use Rattle.symmetrize_standardize.proofs.standardize.Statement.{statement}
+use Rattle.symmetrize_standardize.proofs.standardize.Tie as tie
+
+abbrev given : tie.Start → Given
+given s =
+    let a = s .args in
+    record {
+      lattice = a .lattice;
+      t = a .t;
+      shift = a .shift;
+      c = a .c;
+      elements = a .elements .now;
+      positions = a .positions .now;
+      rotations = a .rotations .now;
+      translations = a .translations .now;
+      images = a .images .now;
+      targetRotations = a .target-rotations .now;
+      targetTranslations = a .target-translations .now;
+      conventional = a .conventional .now;
+      multiplicities = a .candidates .now;
+      letters = a .candidate-letters .now;
+      texts = a .texts .now;
+      symprec = a .symprec;
+    }
+
+abbrev lent : tie.Start → AnswerCells
+lent s =
+    let a = s .args in
+    record {
+      positions = a .out-positions .now;
+      points = a .out-points .now;
+      mapping = a .mapping .now;
+      elements = a .out-elements .now;
+      labels = a .labels .now;
+      multiplicities = a .multiplicities .now;
+      letters = a .letters .now;
+      primitive = a .primitive .now;
+      primitiveBasis = a .primitive-basis .now;
+      listedBasis = a .listed-basis .now;
+      factors = a .factors .now;
+    }
+
+abbrev start : tie.After-answer → tie.Start
+start c = c .before .before .before .before .before .before .before .before .before .before .before .before .before .before .before .before .before .before .before
+
+-- as `answer` leaves the lent lists
+abbrev left : tie.After-answer → AnswerCells
+left c =
+    record {
+      positions = c .answer .last .1 .1 .1 .1 .1 .1 .1 .1 .1 .1 .1 .1 .1 .1 .1 .1 .0;
+      points = c .answer .last .1 .1 .1 .1 .1 .1 .1 .1 .1 .1 .1 .1 .1 .1 .1 .1 .1 .0;
+      mapping = c .answer .last .1 .1 .1 .1 .1 .1 .1 .1 .1 .1 .1 .1 .1 .1 .1 .1 .1 .1 .0;
+      elements = c .answer .last .1 .1 .1 .1 .1 .1 .1 .1 .1 .1 .1 .1 .1 .1 .1 .1 .1 .1 .1 .0;
+      labels = c .answer .last .1 .1 .1 .1 .1 .1 .1 .1 .1 .1 .1 .1 .1 .1 .1 .1 .1 .1 .1 .1 .0;
+      multiplicities = c .answer .last .1 .1 .1 .1 .1 .1 .1 .1 .1 .1 .1 .1 .1 .1 .1 .1 .1 .1 .1 .1 .1 .0;
+      letters = c .answer .last .1 .1 .1 .1 .1 .1 .1 .1 .1 .1 .1 .1 .1 .1 .1 .1 .1 .1 .1 .1 .1 .1 .0;
+      primitive = c .answer .last .1 .1 .1 .1 .1 .1 .1 .1 .1 .1 .1 .1 .1 .1 .1 .1 .1 .1 .1 .1 .1 .1 .1 .0;
+      primitiveBasis = c .answer .last .1 .1 .1 .1 .1 .1 .1 .1 .1 .1 .1 .1 .1 .1 .1 .1 .1 .1 .1 .1 .1 .1 .1 .1 .0;
+      listedBasis = c .answer .last .1 .1 .1 .1 .1 .1 .1 .1 .1 .1 .1 .1 .1 .1 .1 .1 .1 .1 .1 .1 .1 .1 .1 .1 .1 .0;
+      factors = c .answer .last .1 .1 .1 .1 .1 .1 .1 .1 .1 .1 .1 .1 .1 .1 .1 .1 .1 .1 .1 .1 .1 .1 .1 .1 .1 .1 .0;
+    }
+
+returns : tie.Need-returns
+returns c =
+    let a = c .before .before .before .before .before .before .before .before .before .before .before .before .before .before in
+    promise-accepted (given (start a)) (lent (start a)) (left a) (a .answer .result) _ _ (c .enum-told .given .1) (a .answer .ensures)
+
+-- ---- after a refusal
+
+abbrev cleared : tie.After-primitive2 → tie.After-clear-answer
+cleared c = c .before .before .before .before .before .before .before .before .before .before .before .before
+
+abbrev answered : tie.After-primitive2 → tie.After-answer
+answered c = cleared c .before .before .before .before .before .before .before .before .before .before .before .before .before .before .before .before .before .before .before .before .before .before .before .before .before .before
+
+abbrev zeros : tie.After-primitive2 → AnswerCells
+zeros c =
+    record {
+      positions = cleared c .clear-answer .last .0;
+      points = cleared c .clear-answer .last .1 .0;
+      mapping = cleared c .clear-answer .last .1 .1 .0;
+      elements = cleared c .clear-answer .last .1 .1 .1 .0;
+      labels = cleared c .clear-answer .last .1 .1 .1 .1 .0;
+      multiplicities = cleared c .clear-answer .last .1 .1 .1 .1 .1 .0;
+      letters = cleared c .clear-answer .last .1 .1 .1 .1 .1 .1 .0;
+      primitive = cleared c .clear-answer .last .1 .1 .1 .1 .1 .1 .1 .0;
+      primitiveBasis = cleared c .clear-answer .last .1 .1 .1 .1 .1 .1 .1 .1 .0;
+      listedBasis = cleared c .clear-answer .last .1 .1 .1 .1 .1 .1 .1 .1 .1 .0;
+      factors = cleared c .clear-answer .last .1 .1 .1 .1 .1 .1 .1 .1 .1 .1 .0;
+    }
+
+same-length-9 : tie.Need-same-length-9
+same-length-9 c = cleared c .clear-answer .kept .0 ∙ answered c .answer .kept .1 .1 .1 .1 .1 .1 .1 .1 .1 .1 .1 .1 .1 .1 .1 .1 .0
+
+same-length-10 : tie.Need-same-length-10
+same-length-10 c = cleared c .clear-answer .kept .1 .0 ∙ answered c .answer .kept .1 .1 .1 .1 .1 .1 .1 .1 .1 .1 .1 .1 .1 .1 .1 .1 .1 .0
+
+same-length-11 : tie.Need-same-length-11
+same-length-11 c = cleared c .clear-answer .kept .1 .1 .0 ∙ answered c .answer .kept .1 .1 .1 .1 .1 .1 .1 .1 .1 .1 .1 .1 .1 .1 .1 .1 .1 .1 .0
+
+same-length-12 : tie.Need-same-length-12
+same-length-12 c = cleared c .clear-answer .kept .1 .1 .1 .0 ∙ answered c .answer .kept .1 .1 .1 .1 .1 .1 .1 .1 .1 .1 .1 .1 .1 .1 .1 .1 .1 .1 .1 .0
+
+same-length-13 : tie.Need-same-length-13
+same-length-13 c = cleared c .clear-answer .kept .1 .1 .1 .1 .0 ∙ answered c .answer .kept .1 .1 .1 .1 .1 .1 .1 .1 .1 .1 .1 .1 .1 .1 .1 .1 .1 .1 .1 .1 .0
+
+same-length-14 : tie.Need-same-length-14
+same-length-14 c = cleared c .clear-answer .kept .1 .1 .1 .1 .1 .0 ∙ answered c .answer .kept .1 .1 .1 .1 .1 .1 .1 .1 .1 .1 .1 .1 .1 .1 .1 .1 .1 .1 .1 .1 .1 .0
+
+same-length-15 : tie.Need-same-length-15
+same-length-15 c = cleared c .clear-answer .kept .1 .1 .1 .1 .1 .1 .0 ∙ answered c .answer .kept .1 .1 .1 .1 .1 .1 .1 .1 .1 .1 .1 .1 .1 .1 .1 .1 .1 .1 .1 .1 .1 .1 .0
+
+same-length-16 : tie.Need-same-length-16
+same-length-16 c = cleared c .clear-answer .kept .1 .1 .1 .1 .1 .1 .1 .0 ∙ answered c .answer .kept .1 .1 .1 .1 .1 .1 .1 .1 .1 .1 .1 .1 .1 .1 .1 .1 .1 .1 .1 .1 .1 .1 .1 .0
+
+returns-2 : tie.Need-returns-2
+returns-2 c =
+    let a = answered c in
+    let s = start a in
+    promise-refused (given s) (lent s) (left a) (zeros c) (a .answer .result) _ (cleared c .before .before .before .before .before .before .before .before .before .before .before .before .enum-told2 .given .1) (a .answer .ensures)
+    (cleared-from (lent s) (left a) (zeros c) (a .answer .kept .1 .1 .1 .1 .1 .1 .1 .1 .1 .1 .1 .1 .1 .1 .1 .1 .0) (a .answer .kept .1 .1 .1 .1 .1 .1 .1 .1 .1 .1 .1 .1 .1 .1 .1 .1 .1 .0) (a .answer .kept .1 .1 .1 .1 .1 .1 .1 .1 .1 .1 .1 .1 .1 .1 .1 .1 .1 .1 .0) (a .answer .kept .1 .1 .1 .1 .1 .1 .1 .1 .1 .1 .1 .1 .1 .1 .1 .1 .1 .1 .1 .0) (a .answer .kept .1 .1 .1 .1 .1 .1 .1 .1 .1 .1 .1 .1 .1 .1 .1 .1 .1 .1 .1 .1 .0) (a .answer .kept .1 .1 .1 .1 .1 .1 .1 .1 .1 .1 .1 .1 .1 .1 .1 .1 .1 .1 .1 .1 .1 .0) (a .answer .kept .1 .1 .1 .1 .1 .1 .1 .1 .1 .1 .1 .1 .1 .1 .1 .1 .1 .1 .1 .1 .1 .1 .0) (a .answer .kept .1 .1 .1 .1 .1 .1 .1 .1 .1 .1 .1 .1 .1 .1 .1 .1 .1 .1 .1 .1 .1 .1 .1 .0)
+    (cleared c .clear-answer .ensures))
+
+pub standardize-spec : {M : Type 1} → statement M
+standardize-spec =
+    tie.close
+    (tie.spec (λ c κs. search needs) (λ c. search needs) (λ c. search needs) (λ c κs. search needs) (λ c. search needs) (λ c. search needs) (λ c. search needs) (λ c. search needs) (λ c. search needs) (λ c. search needs) (λ c. search needs) (λ c. search needs) returns
+    same-length-9 same-length-10 same-length-11 same-length-12 same-length-13 same-length-14 same-length-15 same-length-16 returns-2)
