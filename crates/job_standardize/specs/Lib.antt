@@ -1,0 +1,5 @@
+-- The lists that a job's bytes are read into are the job.
+pub mod Given
+pub mod Bytes
+pub mod Rooms
+pub mod Taken

@@ -1,0 +1,1 @@
+// The whole call on a job's bytes.

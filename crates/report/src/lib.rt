@@ -1,0 +1,1 @@
+// The report program's laws.
