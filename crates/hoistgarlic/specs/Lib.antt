@@ -1,0 +1,2 @@
+-- What the calls say in numbers that C can take.
+pub mod Told
