@@ -3,8 +3,9 @@ import struct
 
 from jobs import f64, i8
 
-# the most entries of a list, and the most cells that are lent
-MOST = 300
+# the most entries of a list, and the most cells that are lent; much room
+MOST = 1100
+MUCH = 300
 
 
 def case(tag, parts, words):
@@ -16,6 +17,10 @@ def number(n):
     return struct.pack("<H", n)
 
 
+def size(n):
+    return struct.pack("<Q", n)
+
+
 def listed(entries, pack):
     assert len(entries) <= MOST
     return number(len(entries)) + b"".join(pack(e) for e in entries)
@@ -23,6 +28,19 @@ def listed(entries, pack):
 
 def listed_bytes(images):
     return listed(images, lambda image: bytes([image]))
+
+
+def listed_numbers(numbers):
+    return listed(numbers, number)
+
+
+def listed_elements(elements):
+    return listed(elements, lambda e: struct.pack("<i", e))
+
+
+def listed_texts(texts):
+    assert all(len(t) == 64 for t in texts)
+    return listed(texts, bytes)
 
 
 def listed_matrices(ms):
@@ -55,6 +73,14 @@ def lent(refused, words, cells, width=1):
     return ["accepted"] + list(words) + [0] * (cells * width - len(words))
 
 
+def lent_lists(refused, lists):
+    """As `lent`, of lists: each its answer's words, its cells and their width."""
+    out = ["refused", refused] if refused else ["accepted"]
+    for words, cells, width in lists:
+        out += lent(refused, words, cells, width)[2 if refused else 1:]
+    return out
+
+
 def rooms(n):
     """The room that is just enough first; then too much, one too little, none."""
-    return [r for r in dict.fromkeys([n, n + 1, n + 4, MOST, n - 1, 0]) if 0 <= r <= MOST]
+    return [r for r in dict.fromkeys([n, n + 1, n + 4, MUCH, n - 1, 0]) if 0 <= r <= MUCH]

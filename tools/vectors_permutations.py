@@ -4,7 +4,7 @@ Expected: by document 01's words; the Rust has none of the refusals.
 """
 import random
 
-from records import MOST, case, lent, listed_bytes, number, rooms
+from records import MUCH, case, lent, listed_bytes, number, rooms
 
 
 def is_permutation(p):
@@ -61,7 +61,7 @@ def broken(rng, n):
 def cases(oracle):
     rng = random.Random(31)
     for n in (0, 1, 2, 3, 5, 16, 255, 256, 257, 300, 65535):
-        yield from (identity(n, room) for room in rooms(min(n, MOST)))
+        yield from (identity(n, room) for room in rooms(min(n, MUCH)))
     sizes = [0, 1, 2, 2, 3, 3, 3, 5, 5, 8, 13, 24, 100, 255, 256]
     for p, q in [([1, 0, 2, 4, 3], [1, 0, 2, 4, 3]), ([1, 2, 0], [1, 0, 2]), ([1, 0, 2], [1, 2, 0])] + [
             (shuffled(rng, n), shuffled(rng, n)) for n in sizes]:

@@ -16,7 +16,7 @@ fn centering_of(letter: u8) -> Centering {
 }
 
 pub(crate) fn run_linear() {
-    let letter = vectors_io::read_byte();
-    vectors_io::print(&[b' ', letter]);
-    vectors_io::print_matrix(widened(linear(centering_of(letter))));
+    let letter = crate::records::read_byte();
+    crate::records::print(&[b' ', letter]);
+    crate::records::print_matrix(widened(linear(centering_of(letter))));
 }

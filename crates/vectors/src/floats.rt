@@ -1,15 +1,15 @@
 // Rounding, the square root, and the remainder modulo 1: the patterns that go in, then those that come out.
+use crate::records::print_float;
 use definitions::Position;
 use math_real::position::remainder;
 use math_round::round;
 use math_sqrt::sqrt;
-use vectors_io::print_float;
 
 // a float, whose pattern is printed: of a NaN too
 fn read_shown() -> f64 {
-    let bits = vectors_io::read_word();
-    vectors_io::print_pattern(bits);
-    vectors_io::float_of(bits)
+    let bits = crate::records::read_word();
+    crate::records::print_pattern(bits);
+    crate::records::float_of(bits)
 }
 
 pub(crate) fn run_round() {

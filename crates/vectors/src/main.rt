@@ -1,9 +1,9 @@
 // Runs the records of standard input, one call each, and prints a line for each: the tag, what the call said, and every
 // lent cell, after a refusal too. No lent cell is zero before the call.
 //
-// A record is a tag and the call's arguments. A float is its pattern, eight bytes; a matrix is nine signed bytes, row
-// by
-// row; a number is two bytes; a list is a number and as many entries; a room is a number, of the cells that are lent.
+// A record is a tag and the call's arguments. A float is its pattern, eight bytes; a size is eight bytes too; a matrix is
+// nine signed bytes, a basis nine floats, row by row; a position is three floats; an element is four bytes, a text 64; a
+// number is two bytes; a list is a number and as many entries; a room is a number, of the cells that are lent.
 //
 //   tag  call                                     arguments
 //   r    math_round::round                        float
@@ -21,17 +21,34 @@
 //   S    symmetrize_positions                     matrix T; the shift, three floats; lists of positions, of rotations,
 //                                                 of translations and of images: three floats, a matrix or a byte
 //                                                 an entry; room
-//   W    data_wyckoff::read_coordinates           64 bytes
-//   L    symmetrize_lattice                       nine floats, row by row; matrices T, C; list of matrices
+//   W    data_wyckoff::read_coordinates           text
+//   L    symmetrize_lattice                       basis; matrices T, C; list of matrices
+//   A    symmetrize_align::align_permutations     matrix T; lists of rotations and of images; size, of sites; list of
+//                                                 targets' rotations; room
+//   l    base_transformation::cell::list_sites    matrix C; lists of elements and of positions; rooms of positions,
+//                                                 points, mapping and elements
+//   o    base_cell::label_sites                   sizes: sites and permutations; lists of images and of numbers, the
+//                                                 mapping; rooms of labels and multiplicities
+//   p    data_wyckoff::space::prepare             text
+//   M    symmetrize_match::match_coordinates      basis, position, text, float symprec
+//   w    symmetrize_wyckoff::letter_sites         as o without the rooms; list of positions; basis; of candidates lists
+//                                                 of numbers, of bytes and of texts; float symprec; rooms of labels,
+//                                                 multiplicities and letters
+mod align;
+mod cell;
 mod centering;
 mod coordinates;
 mod floats;
+mod labels;
+mod letters;
 mod permutation;
+mod records;
 mod snf;
 mod symmetrization;
 mod transformation;
+mod wyckoff;
 
-use vectors_io::print;
+use crate::records::print;
 
 fn run(tag: u8) {
     match tag {
@@ -50,13 +67,19 @@ fn run(tag: u8) {
         b'W' => coordinates::run_read(),
         b'S' => symmetrization::run_positions(),
         b'L' => symmetrization::run_lattice(),
+        b'A' => align::run_align(),
+        b'l' => cell::run_list(),
+        b'o' => labels::run_labels(),
+        b'p' => wyckoff::run_prepare(),
+        b'M' => wyckoff::run_match(),
+        b'w' => letters::run_letters(),
         _ => print(b" is no tag"),
     }
 }
 
 // false where the input has ended: no tag is 0
 fn next() -> bool {
-    let tag = vectors_io::read_byte();
+    let tag = crate::records::read_byte();
     if tag == 0 {
         return false;
     }

@@ -1,16 +1,16 @@
 // The calls of base/permutation.rs.
+use crate::records::MOST;
+use crate::records::lend_bytes;
+use crate::records::print_bytes;
+use crate::records::print_verdict;
+use crate::records::read_bytes;
+use crate::records::read_number;
 use base_permutation::apply;
 use base_permutation::identity;
 use base_permutation::inverse;
 use base_permutation::product;
 use definitions::Image;
 use definitions::PrimSite;
-use vectors_io::MOST;
-use vectors_io::lend_bytes;
-use vectors_io::print_bytes;
-use vectors_io::print_verdict;
-use vectors_io::read_bytes;
-use vectors_io::read_number;
 
 pub(crate) fn run_identity() {
     let n = read_number();
@@ -27,8 +27,8 @@ pub(crate) fn run_apply() {
     let site = read_number();
     let image = apply(&p[..n], PrimSite(site));
     match image {
-        Image::Site(s) => vectors_io::print_count(s.0),
-        Image::Refused(k) => vectors_io::print_refused(k),
+        Image::Site(s) => crate::records::print_count(s.0),
+        Image::Refused(k) => crate::records::print_refused(k),
     }
 }
 

@@ -1,7 +1,7 @@
 // The diagonalisation: D, L and R.
+use crate::records::print_matrix;
 use definitions::SnfMatrix;
 use math_snf::snf;
-use vectors_io::print_matrix;
 
 const SEVENS: SnfMatrix = [[7, 7, 7], [7, 7, 7], [7, 7, 7]];
 
@@ -9,8 +9,8 @@ pub(crate) fn run_snf() {
     let mut d = SEVENS;
     let mut l = SEVENS;
     let mut r = SEVENS;
-    let v = snf(vectors_io::read_matrix(), &mut d, &mut l, &mut r);
-    vectors_io::print_verdict(v);
+    let v = snf(crate::records::read_matrix(), &mut d, &mut l, &mut r);
+    crate::records::print_verdict(v);
     print_matrix(d);
     print_matrix(l);
     print_matrix(r);

@@ -1,16 +1,16 @@
 // The calls of symmetrize/symmetrization.rs: positions and the lattice.
+use crate::records::MOST;
+use crate::records::print_triple;
+use crate::records::print_verdict;
+use crate::records::read_matrices;
+use crate::records::read_matrix;
+use crate::records::read_triple;
+use crate::records::read_triples;
 use definitions::Basis;
 use definitions::Position;
 use definitions::Rotation;
 use symmetrize_lattice::symmetrize_lattice;
 use symmetrize_positions::symmetrize_positions;
-use vectors_io::MOST;
-use vectors_io::print_triple;
-use vectors_io::print_verdict;
-use vectors_io::read_matrices;
-use vectors_io::read_matrix;
-use vectors_io::read_triple;
-use vectors_io::read_triples;
 
 const ZERO: Rotation = [[0, 0, 0], [0, 0, 0], [0, 0, 0]];
 
@@ -35,9 +35,9 @@ pub(crate) fn run_positions() {
     let mut translations = [[0.0; 3]; MOST];
     let h = read_triples(&mut translations);
     let mut images = [0u8; MOST];
-    let e = vectors_io::read_bytes(&mut images);
+    let e = crate::records::read_bytes(&mut images);
     let mut out = [[0.0; 3]; MOST];
-    let room = vectors_io::lend_triples(&mut out);
+    let room = crate::records::lend_triples(&mut out);
     let v = symmetrize_positions(
         t,
         shift,
@@ -48,7 +48,7 @@ pub(crate) fn run_positions() {
         &mut out[..room],
     );
     print_verdict(v);
-    vectors_io::print_triples(&out, room);
+    crate::records::print_triples(&out, room);
 }
 
 fn print_basis(m: Basis) {
@@ -58,9 +58,7 @@ fn print_basis(m: Basis) {
 }
 
 pub(crate) fn run_lattice() {
-    let x = read_triple();
-    let y = read_triple();
-    let z = read_triple();
+    let basis = crate::records::read_basis();
     let t = read_matrix();
     let c = read_matrix();
     let mut rotations = [ZERO; MOST];
@@ -69,7 +67,7 @@ pub(crate) fn run_lattice() {
     let mut primitive = SEVENS;
     let mut listed = SEVENS;
     let v = symmetrize_lattice(
-        [x, y, z],
+        basis,
         t,
         c,
         &rotations[..k],
