@@ -2,4 +2,6 @@
 pub mod Given
 pub mod Bytes
 pub mod Rooms
+pub mod Refused
 pub mod Taken
+pub mod Read

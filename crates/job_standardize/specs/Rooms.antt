@@ -5,15 +5,17 @@ use mathlib.Core.Bool.{Bool, true, false, not, _||_}
 use mathlib.Core.List.{List, [], _∷_, map}
 use native.Mathlib.Omega.{arith}
 use borrow.Author.Tests.{le-ltb, ltb-false, eqb-true, not-false}
-use lib.ListN.{length, length-map}
+use lib.ListN.{length, length-map, replicate, length-replicate}
+use lib.IntN.{pos}
 use lib.Dec.{T, ltb}
 use Rattle.definitions.specs.Lists.{any}
 use Rattle.definitions.specs.Limits.{tooManySites, notSome, tooManyCandidates, shorterThan}
 use Rattle.definitions.specs.Limits.{most-sites, most-operations, most-candidates}
 use Rattle.definitions.specs.Job.{Parts, Job, jobOf, siteOf, operationOf, candidateOf, rowsOf}
-use Rattle.definitions.specs.Lent.{unlike}
+use Rattle.definitions.specs.Real.{zeroF}
+use Rattle.definitions.specs.Lent.{unlike, zeroCells, zeroMatrix, zeroBasis, positionFrom}
 use Rattle.definitions.specs.Standardize.{badCounts, siteCount}
-use Rattle.definitions.specs.WholeCalls.{Given, tooShortFor}
+use Rattle.definitions.specs.WholeCalls.{Given, zeroText, tooShortFor}
 use Rattle.laws.specs.Lists.{any-none}
 use Rattle.laws.specs.Limits.{few, few-entries}
 use Rattle.laws.specs.Tests.{not-so, neither, neither-left, neither-right}
@@ -35,6 +37,44 @@ pub record Ample (e : Given) : Type 0 where
   pub multiplicities : length (e .multiplicities) ≡ most-candidates
   pub letters : length (e .letters) ≡ most-candidates
   pub texts : length (e .texts) ≡ most-candidates
+
+-- the lists before the reading
+abbrev pub blank : Given
+blank =
+    record {
+      lattice = zeroBasis;
+      t = zeroMatrix;
+      shift = positionFrom zeroCells;
+      c = zeroMatrix;
+      elements = replicate most-sites (pos 0);
+      positions = replicate most-sites zeroCells;
+      rotations = replicate most-operations zeroMatrix;
+      translations = replicate most-operations zeroCells;
+      images = replicate most-images 0;
+      targetRotations = replicate most-operations zeroMatrix;
+      targetTranslations = replicate most-operations zeroCells;
+      conventional = replicate most-operations zeroMatrix;
+      multiplicities = replicate most-candidates 0;
+      letters = replicate most-candidates 0;
+      texts = replicate most-candidates zeroText;
+      symprec = zeroF;
+    }
+
+pub blank-ample : Ample blank
+blank-ample =
+    record {
+      elements = length-replicate most-sites (pos 0);
+      positions = length-replicate most-sites zeroCells;
+      rotations = length-replicate most-operations zeroMatrix;
+      translations = length-replicate most-operations zeroCells;
+      images = length-replicate {A = ℕ} most-images 0;
+      targetRotations = length-replicate most-operations zeroMatrix;
+      targetTranslations = length-replicate most-operations zeroCells;
+      conventional = length-replicate most-operations zeroMatrix;
+      multiplicities = length-replicate {A = ℕ} most-candidates 0;
+      letters = length-replicate {A = ℕ} most-candidates 0;
+      texts = length-replicate most-candidates zeroText;
+    }
 
 -- not shorter than the least room of all
 room : (a n l : ℕ) → a ≤ n → l ≡ n → shorterThan a l ≡ false

@@ -1,15 +1,18 @@
 -- The fronts of the lists that were read are the job's lists.
-use Prim.Native.Nat.{ℕ}
-use mathlib.Core.Path.{_≡_, refl, ap, _∙_}
+use Prim.Native.Nat.{ℕ, _≤_}
+use mathlib.Core.Path.{_≡_, refl, ap, _∙_, subst}
 use mathlib.Core.List.{List, map}
 use lib.ListN.{length, length-map, take}
 use lib.Seq.{take-at}
 use lib.IntN.{pos}
 use Rattle.definitions.specs.declared.JobCounts.{JobCounts}
+use Rattle.definitions.specs.declared.Position.{Position}
+use Rattle.definitions.specs.declared.Standardized.{Standardized}
 use Rattle.definitions.specs.Refusal.{Holds}
 use Rattle.definitions.specs.Job.{Parts, positionOf, rowsOf}
 use Rattle.definitions.specs.Lent.{cellsOf, zeroCells, zeroMatrix}
 use Rattle.definitions.specs.WholeCalls.{Given, givenOf, zeroText, HoldsGiven, countsOf}
+use Rattle.definitions.specs.WholeCalls.{AnswerCells, ListsPromise}
 
 -- as many of each as there are
 abbrev pub taken : JobCounts → Given → Given
@@ -32,6 +35,47 @@ taken n e =
       texts = take (n .candidates) (e .texts);
       symprec = e .symprec;
     }
+
+-- the same with another shift
+abbrev shifted : Given → Position → Given
+shifted e q =
+    record {
+      lattice = e .lattice;
+      t = e .t;
+      shift = q;
+      c = e .c;
+      elements = e .elements;
+      positions = e .positions;
+      rotations = e .rotations;
+      translations = e .translations;
+      images = e .images;
+      targetRotations = e .targetRotations;
+      targetTranslations = e .targetTranslations;
+      conventional = e .conventional;
+      multiplicities = e .multiplicities;
+      letters = e .letters;
+      texts = e .texts;
+      symprec = e .symprec;
+    }
+
+pub same-shift :
+    (e : Given) (p q : Position) → p ≡ q → (old new : AnswerCells) (s : Standardized) →
+    ListsPromise (shifted e p) old new s → ListsPromise (shifted e q) old new s
+same-shift e p q h old new s = subst (λ x. ListsPromise (shifted e x) old new s) h
+
+-- there are as many of each
+pub record Within (n : JobCounts) (e : Given) : Type 0 where
+  pub elements : n .sites ≤ length (e .elements)
+  pub positions : n .sites ≤ length (e .positions)
+  pub rotations : n .operations ≤ length (e .rotations)
+  pub translations : n .operations ≤ length (e .translations)
+  pub images : n .images ≤ length (e .images)
+  pub targetRotations : n .targets ≤ length (e .targetRotations)
+  pub targetTranslations : n .targets ≤ length (e .targetTranslations)
+  pub conventional : n .rotations ≤ length (e .conventional)
+  pub multiplicities : n .candidates ≤ length (e .multiplicities)
+  pub letters : n .candidates ≤ length (e .letters)
+  pub texts : n .candidates ≤ length (e .texts)
 
 front :
     {A B : Type 0} (f : A → B) (l : List A) (zero : B) (old cells : List B) → Holds zero old cells (map f l) →
