@@ -1,4 +1,4 @@
-
+// Appended to the harness of the oracle, in the module of moyo's standardize.rs.
 /// One call of the original, for the benchmark.
 pub fn match_one(position: &[f64; 3], coordinates: &str, basis: &[[f64; 3]; 3], symprec: f64) -> bool {
     let b = basis;

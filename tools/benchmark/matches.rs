@@ -1,6 +1,7 @@
-// One match that misses at all 125 offsets and one that fits at place 13, ours and moyo's, the least of nine runs.
+//! Single matches, ours beside moyo's own `match_wyckoff_coordinates`: all 125 offsets miss, or place 13 fits.
+use crate::clock;
+use moyo::symmetrize::standardize::match_one;
 use std::hint::black_box;
-use std::time::Instant;
 
 extern "C" {
     fn hoistgarlic_match(
@@ -23,24 +24,13 @@ fn padded(coordinates: &str) -> [u8; 64] {
 fn ours(position: &[f64; 3], text: &[u8; 64], basis: &[[f64; 3]; 3], symprec: f64) -> usize {
     let mut place = 0;
     let mut distance = 0.0;
+    // SAFETY: each pointer is to one value.
     let number = unsafe { hoistgarlic_match(basis, position, text, symprec, &mut place, &mut distance) };
     assert_eq!(number, 0);
     place
 }
 
-fn nanoseconds(mut f: impl FnMut()) -> f64 {
-    let n = 20_000;
-    let mut run = || {
-        let start = Instant::now();
-        for _ in 0..n {
-            f();
-        }
-        start.elapsed().as_nanos() as f64 / n as f64
-    };
-    (0..9).map(|_| run()).fold(f64::INFINITY, f64::min)
-}
-
-fn main() {
+pub fn print() {
     let basis = [[5.1, -2.55, 0.0], [0.0, 4.4167, 0.0], [0.0, 0.0, 7.3]];
     let symprec = 0.0001;
     let cases = [
@@ -51,14 +41,17 @@ fn main() {
     ];
     for (name, coordinates, position, place) in cases {
         let text = padded(coordinates);
+        let moyos = |position: &[f64; 3]| match_one(position, coordinates, &basis, symprec);
         assert_eq!(ours(&position, &text, &basis, symprec), place, "{name}");
-        assert_eq!(moyo::symmetrize::standardize::match_one(&position, coordinates, &basis, symprec), place < 125, "{name}");
-        let a = nanoseconds(|| {
-            black_box(ours(black_box(&position), black_box(&text), black_box(&basis), black_box(symprec)));
-        });
-        let b = nanoseconds(|| {
-            black_box(moyo::symmetrize::standardize::match_one(black_box(&position), black_box(coordinates), black_box(&basis), black_box(symprec)));
-        });
-        println!("{name:28} ours {a:7.0} ns   moyo {b:7.0} ns");
+        assert_eq!(moyos(&position), place < 125, "{name}");
+        let (a, b) = clock::both(
+            || {
+                black_box(ours(black_box(&position), &text, &basis, symprec));
+            },
+            || {
+                black_box(moyos(black_box(&position)));
+            },
+        );
+        println!("match {name:46} {a:12.0} {b:12.0} {:8.2}", b / a);
     }
 }
