@@ -4,4 +4,5 @@ pub mod Same
 pub mod Calls
 pub mod Answers
 pub mod Whole
+pub mod Cells
 pub mod Stages
