@@ -1,2 +1,3 @@
--- What the report program prints, from the promise of the whole call on bytes.
+-- What the report program prints, from the promise of the whole call on bytes, and how much it reads.
 pub mod Printed
+pub mod Input

@@ -20,6 +20,7 @@ use Rattle.definitions.specs.WholeCalls.{AnswerCells, roomsOf, HoldsAnswer, tol
 use Rattle.definitions.specs.WholeCalls.{Tells, Written, ReportWritten, ReportPromise}
 use Rattle.laws.specs.Order.{none-of}
 use Rattle.laws.specs.Tests.{off}
+use Rattle.report_text.specs.Text.{report-bytes}
 use Rattle.report_text.proofs.Room.{report-room, refusal-room, written-within, written-whole}
 
 -- ---- a list with zeros behind it has the list's entries, and 0 behind them
@@ -84,7 +85,7 @@ module _ (bs : List ℕ) (entry exit : AnswerCells) (r : Standardized) where
 
   -- What is printed: the report, and every byte of it.
   pub printed :
-      roomsOf entry ≡ ample → BytesPromise bs entry exit r → (old new : List ℕ) (n : ℕ) → 88119 ≤ length old →
+      roomsOf entry ≡ ample → BytesPromise bs entry exit r → (old new : List ℕ) (n : ℕ) → report-bytes ≤ length old →
       ReportWritten r (shown exit) old new n → ReportPromise bs (take n new) × (n ≤ length new)
   unfolding Returns
   printed rooms (accepted a, (ret, holds), told) old new n room w =

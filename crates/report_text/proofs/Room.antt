@@ -8,13 +8,14 @@ use native.Mathlib.Omega.{arith}
 use lib.ListN.{length, getD, take, drop, length-append}
 use lib.Seq.{take-all, take-at}
 use lib.Dec.{ltb}
+use Rattle.definitions.specs.Limits.{most-listed}
 use Rattle.definitions.specs.Lists.{each, upTo}
 use Rattle.definitions.specs.Refusal.{accepted, refused}
 use Rattle.definitions.specs.Standardize.{Answer}
 use Rattle.definitions.specs.Report.{decimal, decimalIn, space, newline}
 use Rattle.definitions.specs.Report.{refusedText, sitesText, orbitsText, siteLine, report}
 use Rattle.definitions.specs.WholeCalls.{Written}
-use Rattle.report_text.specs.Text.{headerText}
+use Rattle.report_text.specs.Text.{headerText, header-bytes, line-bytes, report-bytes}
 use Rattle.laws.specs.Lists.{length-upFrom}
 
 record Room (text : List ℕ) (m : ℕ) : Type 0 where
@@ -46,7 +47,7 @@ letter-room b = record { most = omega arith }
 newline-room : Room (newline ∷ []) 1
 newline-room = record { most = omega arith }
 
-line-room : (a : Answer) (j : ℕ) → length (siteLine a j) ≤ 86
+line-room : (a : Answer) (j : ℕ) → length (siteLine a j) ≤ line-bytes
 line-room a j =
     let site = then (digits-room 20 j) (field-room (getD (a .mapping) j 0)) in
     let numbers = then (then site (field-room (getD (a .labels) j 0))) (field-room (getD (a .multiplicities) j 0)) in
@@ -57,20 +58,20 @@ unfolding each
 each-room f m h [] = omega arith
 each-room f m h (j ∷ l) = omega (arith, length-append (f j) (each f l), h j, each-room f m h l)
 
-header-room : (sites orbits : ℕ) → length (headerText sites orbits) ≤ 55
+header-room : (sites orbits : ℕ) → length (headerText sites orbits) ≤ header-bytes
 header-room sites orbits =
     let a : Room sitesText 6 = record { most = omega arith } in
     let b : Room orbitsText 8 = record { most = omega arith } in
     then (then (then (then a (digits-room 20 sites)) b) (digits-room 20 orbits)) newline-room .most
 
-pub report-room : (a : Answer) → a .sites ≤ 1024 → length (report (accepted a)) ≤ 88119
+pub report-room : (a : Answer) → a .sites ≤ most-listed → length (report (accepted a)) ≤ report-bytes
 unfolding report
 report-room a h =
     omega (
       arith,
       length-append (headerText (a .sites) (a .orbits)) (each (siteLine a) (upTo (a .sites))),
       header-room (a .sites) (a .orbits),
-      each-room (siteLine a) 86 (line-room a) (upTo (a .sites)),
+      each-room (siteLine a) line-bytes (line-room a) (upTo (a .sites)),
       length-upFrom 0 (a .sites),
     )
 

@@ -1,9 +1,10 @@
 -- The report's text by what is told and the lists that are shown.
-use Prim.Native.Nat.{ℕ}
+use Prim.Native.Nat.{ℕ, _+_, _*_}
 use mathlib.Core.List.{List, [], _∷_, _++_}
 use lib.ListN.{getD}
 use Rattle.definitions.specs.declared.Standardized.{Standardized}
 use Rattle.definitions.specs.declared.Standardized.the-variants.{Accepted, Refused}
+use Rattle.definitions.specs.Limits.{most-listed}
 use Rattle.definitions.specs.Lists.{each, upTo}
 use Rattle.definitions.specs.Report.{decimal, space, newline, refusedText, sitesText, orbitsText}
 use Rattle.definitions.specs.WholeCalls.{Shown}
@@ -36,3 +37,14 @@ refusalText k = refusedText ++ decimal k ++ (newline ∷ [])
 unfoldable pub shownText : Standardized → Shown → List ℕ
 shownText (Accepted sites orbits) s = headerText sites orbits ++ linesText s sites
 shownText (Refused k) s = refusalText k
+
+-- Room for every report: a header of two numbers and a line of four numbers a listed site, each number of at most 20
+-- digits.
+abbrev pub header-bytes : ℕ
+header-bytes = 55
+
+abbrev pub line-bytes : ℕ
+line-bytes = 86
+
+abbrev pub report-bytes : ℕ
+report-bytes = header-bytes + most-listed * line-bytes

@@ -10,6 +10,10 @@ use crate::bytes::put_bytes;
 use crate::bytes::put_decimal;
 use crate::lines::put_lines;
 use definitions::Standardized;
+use definitions::limits::MOST_LISTED;
+
+// Room for every report, as specs/Text.antt has it; proofs/Room.antt shows that it is.
+pub const REPORT_BYTES: usize = 55 + MOST_LISTED * 86;
 
 fn put_refusal(k: usize, out: &mut [u8]) -> usize
     ensures { λ n. ⌜ Puts (refusalText k) 0 (now (out .entry)) (now (out .exit)) n ⌝ }

@@ -1,1 +1,0 @@
-// The report program's laws.
