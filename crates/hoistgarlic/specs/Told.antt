@@ -7,6 +7,8 @@ use Rattle.definitions.specs.declared.Verdict.the-variants.{Accepted, Refused}
 use Rattle.definitions.specs.declared.Match.the-variants.{Fits, Misses}
 use Rattle.definitions.specs.declared.Matching.{Matching}
 use Rattle.definitions.specs.declared.Matching.the-variants as matching
+use Rattle.definitions.specs.declared.Standardized.{Standardized}
+use Rattle.definitions.specs.declared.Standardized.the-variants as standardized
 use Rattle.definitions.specs.Real.{zeroF}
 
 -- a verdict
@@ -42,3 +44,24 @@ pub record MatchTold (Promise : Matching → Type 0) (k place : ℕ) (distance :
   pub number : k ≡ matchNumber matching
   pub offset : place ≡ matchPlace matching
   pub length : distance ≡ matchDistance matching
+
+-- the whole call: its number, and the header's two counts, 0 after a refusal
+abbrev pub wholeNumber : Standardized → ℕ
+wholeNumber (standardized.Accepted sites orbits) = 0
+wholeNumber (standardized.Refused k) = k
+
+abbrev pub wholeSites : Standardized → ℕ
+wholeSites (standardized.Accepted sites orbits) = sites
+wholeSites (standardized.Refused k) = 0
+
+abbrev pub wholeOrbits : Standardized → ℕ
+wholeOrbits (standardized.Accepted sites orbits) = orbits
+wholeOrbits (standardized.Refused k) = 0
+
+-- the numbers of a whole call that keeps a promise
+pub record WholeTold (Promise : Standardized → Type 0) (k n m : ℕ) : Type 0 where
+  pub standardized : Standardized
+  pub promise : Promise standardized
+  pub number : k ≡ wholeNumber standardized
+  pub sites : n ≡ wholeSites standardized
+  pub orbits : m ≡ wholeOrbits standardized

@@ -5,15 +5,20 @@ use definitions::Basis;
 use definitions::Cells;
 use definitions::Match;
 use definitions::Matching;
+use definitions::Point;
+use definitions::Standardized;
 use definitions::Text;
 use definitions::Verdict;
+use job_standardize::standardize_bytes;
 use math_real::position::position_of;
 use symmetrize_match::match_coordinates;
 use symmetrize_wyckoff::letter_sites;
 ghost use mathlib.Core.Path.{_≡_};
 ghost use Rattle.definitions.specs.Lent.{positionFrom};
 ghost use Rattle.definitions.specs.SiteCalls.{LabelPromise, MatchPromise, LetterPromise};
+ghost use Rattle.definitions.specs.WholeCalls.{BytesPromise};
 ghost use Rattle.hoistgarlic.specs.Told.{numberOf, AsNumber, matchNumber, matchPlace, matchDistance, MatchTold};
+ghost use Rattle.hoistgarlic.specs.Told.{wholeNumber, wholeSites, wholeOrbits, WholeTold};
 
 // the place of a match that misses
 const MISSES: usize = 125;
@@ -154,4 +159,89 @@ pub extern "C" fn hoistgarlic_letter(
         multiplicities,
         letters,
     ))
+}
+
+// what is told of the whole call: its number, and the counts of listed sites and of orbits in lent cells
+fn tell_standardized(r: Standardized, sites: &mut usize, orbits: &mut usize) -> usize
+    ensures { λ k. ⌜
+        (k ≡ wholeNumber r) × (now (sites .exit) ≡ wholeSites r) × (now (orbits .exit) ≡ wholeOrbits r) ⌝ }
+{
+    match r {
+        Standardized::Accepted(n, m) => {
+            *sites = n;
+            *orbits = m;
+            0
+        }
+        Standardized::Refused(k) => {
+            *sites = 0;
+            *orbits = 0;
+            k
+        }
+    }
+}
+
+// `standardize_bytes`
+#[no_mangle]
+pub extern "C" fn hoistgarlic_standardize(
+    bytes: &[u8],
+    out_positions: &mut [Cells],
+    out_points: &mut [Point],
+    mapping: &mut [u16],
+    out_elements: &mut [i32],
+    labels: &mut [u16],
+    multiplicities: &mut [u16],
+    letters: &mut [u8],
+    primitive: &mut [Cells],
+    primitive_basis: &mut Basis,
+    listed_basis: &mut Basis,
+    factors: &mut [i16; 3],
+    sites: &mut usize,
+    orbits: &mut usize,
+) -> usize
+    ensures { λ k. ⌜
+        WholeTold
+        (BytesPromise (now (bytes .entry))
+        (record {
+          positions = now («out_positions» .entry);
+          points = now («out_points» .entry);
+          mapping = now (mapping .entry);
+          elements = now («out_elements» .entry);
+          labels = now (labels .entry);
+          multiplicities = now (multiplicities .entry);
+          letters = now (letters .entry);
+          primitive = now (primitive .entry);
+          primitiveBasis = now («primitive_basis» .entry);
+          listedBasis = now («listed_basis» .entry);
+          factors = now (factors .entry);
+        })
+        (record {
+          positions = now («out_positions» .exit);
+          points = now («out_points» .exit);
+          mapping = now (mapping .exit);
+          elements = now («out_elements» .exit);
+          labels = now (labels .exit);
+          multiplicities = now (multiplicities .exit);
+          letters = now (letters .exit);
+          primitive = now (primitive .exit);
+          primitiveBasis = now («primitive_basis» .exit);
+          listedBasis = now («listed_basis» .exit);
+          factors = now (factors .exit);
+        }))
+        k (now (sites .exit)) (now (orbits .exit)) ⌝ }
+{
+    let r = standardize_bytes(
+        bytes,
+        out_positions,
+        out_points,
+        mapping,
+        out_elements,
+        labels,
+        multiplicities,
+        letters,
+        primitive,
+        primitive_basis,
+        listed_basis,
+        factors,
+    );
+    tell_standardized(r, sites, orbits)
 }
