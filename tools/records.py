@@ -3,8 +3,9 @@ import struct
 
 from jobs import f64, i8
 
-# the most entries of a list, and the most cells that are lent; much room
+# the most entries of a list, and the most cells that are lent; the most of a long list of bytes; much room
 MOST = 1100
+LONG = 65600
 MUCH = 300
 
 
@@ -24,6 +25,11 @@ def size(n):
 def listed(entries, pack):
     assert len(entries) <= MOST
     return number(len(entries)) + b"".join(pack(e) for e in entries)
+
+
+def listed_long(data):
+    assert len(data) <= LONG
+    return size(len(data)) + bytes(data)
 
 
 def listed_bytes(images):

@@ -10,6 +10,7 @@ over document 01's stand-in arithmetic, TABLE the first triplets of Internationa
 import collections
 import sys
 
+import job_vectors
 import match_vectors
 import site_vectors
 import vectors_coordinates
@@ -18,7 +19,7 @@ import vectors_matrices
 import vectors_permutations
 import vectors_symmetrization
 
-FAMILIES = [vectors_floats, vectors_matrices, vectors_permutations, vectors_symmetrization, site_vectors]
+FAMILIES = [vectors_floats, vectors_matrices, vectors_permutations, vectors_symmetrization, site_vectors, job_vectors]
 TABLED = [vectors_coordinates, match_vectors]
 
 

@@ -33,3 +33,6 @@ Counts n l = (n ≤ length l) × (n ≡ length (take n l))
 
 pub counts : {A : Type 0} (n : ℕ) (l : List A) → n ≤ 1100 → length l ≡ 1100 → Counts n l
 counts n l h e = (omega arith, simp length-take (omega arith))
+
+pub counts-long : {A : Type 0} (n : ℕ) (l : List A) → n ≤ 65600 → length l ≡ 65600 → Counts n l
+counts-long n l h e = (omega arith, simp length-take (omega arith))

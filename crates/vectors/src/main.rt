@@ -1,5 +1,6 @@
 // Runs the records of standard input, one call each, and prints a line for each: the tag, what the call said, and every
-// lent cell, after a refusal too. No lent cell is zero before the call.
+// lent cell, after a refusal too. No lent cell is zero before the call. Behind what J said stands the report that is made
+// of it, its bytes in hexadecimal digits.
 //
 // A record is a tag and the call's arguments. A float is its pattern, eight bytes; a size is eight bytes too; a matrix is
 // nine signed bytes, a basis nine floats, row by row; a position is three floats; an element is four bytes, a text 64; a
@@ -34,11 +35,19 @@
 //   w    symmetrize_wyckoff::letter_sites         as o without the rooms; list of positions; basis; of candidates lists
 //                                                 of numbers, of bytes and of texts; float symprec; rooms of labels,
 //                                                 multiplicities and letters
+//   J    job_standardize::standardize_bytes       a size, as many bytes; rooms of positions, points, mapping, elements,
+//                                                 labels, multiplicities, letters and primitive positions
+//   j    symmetrize_standardize::standardize      basis; matrix T; the shift, three floats; matrix C; lists of elements,
+//                                                 of positions, of rotations and of translations; a size, as many
+//                                                 images, bytes; of targets lists of rotations and of translations; list
+//                                                 of conventional rotations; candidates and symprec as in w; rooms as in J
+//   b    job::read_job                            a size, as many bytes; rooms of the lists of j in that order
 mod align;
 mod cell;
 mod centering;
 mod coordinates;
 mod floats;
+mod jobs;
 mod labels;
 mod letters;
 mod permutation;
@@ -73,6 +82,9 @@ fn run(tag: u8) {
         b'p' => wyckoff::run_prepare(),
         b'M' => wyckoff::run_match(),
         b'w' => letters::run_letters(),
+        b'J' => jobs::run_bytes(),
+        b'j' => jobs::run_lists(),
+        b'b' => jobs::run_read(),
         _ => print(b" is no tag"),
     }
 }

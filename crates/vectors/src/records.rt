@@ -20,7 +20,12 @@ use libc::STDOUT_FILENO;
 // room for the entries of a list, and for lent cells
 pub(crate) const MOST: usize = 1100;
 
+// room for the bytes of a job, and for some more than a job may have
+pub(crate) const LONG: usize = 65600;
+
 type Bytes = [u8; MOST];
+
+type LongBytes = [u8; LONG];
 
 type Numbers = [u16; MOST];
 
@@ -35,6 +40,8 @@ type Points = [Point; MOST];
 type Matrices = [Rotation; MOST];
 
 const ZERO: Rotation = [[0, 0, 0], [0, 0, 0], [0, 0, 0]];
+
+pub(crate) const SEVENS: Rotation = [[7, 7, 7], [7, 7, 7], [7, 7, 7]];
 
 // ---- what the bytes mean
 
@@ -151,6 +158,16 @@ fn within(n: usize) -> usize
     n
 }
 
+// no more than a long list has room for
+fn within_long(n: usize) -> usize
+    ensures { λ r. ⌜ r ≤ 65600 ⌝ }
+{
+    if LONG < n {
+        return LONG;
+    }
+    n
+}
+
 pub(crate) fn read_float() -> f64 {
     float_of(read_word())
 }
@@ -194,6 +211,17 @@ pub(crate) fn read_bytes(out: &mut Bytes) -> usize
         out[i] = read_byte();
         i += 1;
     }
+    n
+}
+
+// its count is a size
+pub(crate) fn read_long(out: &mut LongBytes) -> usize
+    ensures { λ r. ⌜ Counts r (now (out .exit)) ⌝ }
+{
+    let mut s = [0u8; LONG];
+    let n = within_long(read_size());
+    io::read_full(STDIN_FILENO, &mut s[..n]);
+    *out = s;
     n
 }
 
@@ -271,6 +299,13 @@ pub(crate) fn lend_bytes(out: &mut Bytes) -> usize
     within(read_number())
 }
 
+pub(crate) fn lend_long(out: &mut LongBytes) -> usize
+    ensures { λ r. ⌜ Counts r (now (out .exit)) ⌝ }
+{
+    *out = [7; LONG];
+    within_long(read_number())
+}
+
 pub(crate) fn lend_numbers(out: &mut Numbers) -> usize
     ensures { λ r. ⌜ Counts r (now (out .exit)) ⌝ }
 {
@@ -296,6 +331,20 @@ pub(crate) fn lend_points(out: &mut Points) -> usize
     ensures { λ r. ⌜ Counts r (now (out .exit)) ⌝ }
 {
     *out = [[7, 7, 7]; MOST];
+    within(read_number())
+}
+
+pub(crate) fn lend_texts(out: &mut Texts) -> usize
+    ensures { λ r. ⌜ Counts r (now (out .exit)) ⌝ }
+{
+    *out = [[7; 64]; MOST];
+    within(read_number())
+}
+
+pub(crate) fn lend_matrices(out: &mut Matrices) -> usize
+    ensures { λ r. ⌜ Counts r (now (out .exit)) ⌝ }
+{
+    *out = [SEVENS; MOST];
     within(read_number())
 }
 
@@ -339,6 +388,22 @@ fn print_i16(x: i16) {
     print_signed(x < 0, magnitude16(x));
 }
 
+fn print_i8(x: i8) {
+    print_i64(x as i64);
+}
+
+fn print_rotation_row(r: [i8; 3]) {
+    print_i8(r[0]);
+    print_i8(r[1]);
+    print_i8(r[2]);
+}
+
+pub(crate) fn print_rotation(m: Rotation) {
+    print_rotation_row(m[0]);
+    print_rotation_row(m[1]);
+    print_rotation_row(m[2]);
+}
+
 pub(crate) fn print_point(p: Point) {
     print_i64(p[0]);
     print_i64(p[1]);
@@ -377,11 +442,45 @@ pub(crate) fn print_triple(t: Cells) {
     print_float(t[2]);
 }
 
+pub(crate) fn print_basis(m: Basis) {
+    print_triple(m[0]);
+    print_triple(m[1]);
+    print_triple(m[2]);
+}
+
+fn print_text(t: Text) {
+    let mut i: usize = 0;
+    while i < 64 {
+        print_byte(t[i]);
+        i += 1;
+    }
+}
+
 pub(crate) fn print_bytes(list: &Bytes, n: usize) {
     let end = within(n);
     let mut i: usize = 0;
     while i < end {
         print_byte(list[i]);
+        i += 1;
+    }
+}
+
+pub(crate) fn print_long(list: &LongBytes, n: usize) {
+    let end = within_long(n);
+    let mut i: usize = 0;
+    while i < end {
+        print_byte(list[i]);
+        i += 1;
+    }
+}
+
+// one word, two hexadecimal digits a byte
+pub(crate) fn print_digits(list: &LongBytes, n: usize) {
+    print(b" ");
+    let end = within_long(n);
+    let mut i: usize = 0;
+    while i < end {
+        io::print_hex(STDOUT_FILENO, wide(list[i]), 2);
         i += 1;
     }
 }
@@ -418,6 +517,24 @@ pub(crate) fn print_points(list: &Points, n: usize) {
     let mut i: usize = 0;
     while i < end {
         print_point(list[i]);
+        i += 1;
+    }
+}
+
+pub(crate) fn print_matrices(list: &Matrices, n: usize) {
+    let end = within(n);
+    let mut i: usize = 0;
+    while i < end {
+        print_rotation(list[i]);
+        i += 1;
+    }
+}
+
+pub(crate) fn print_texts(list: &Texts, n: usize) {
+    let end = within(n);
+    let mut i: usize = 0;
+    while i < end {
+        print_text(list[i]);
         i += 1;
     }
 }

@@ -1,6 +1,6 @@
 // The calls of symmetrize/symmetrization.rs: positions and the lattice.
 use crate::records::MOST;
-use crate::records::print_triple;
+use crate::records::print_basis;
 use crate::records::print_verdict;
 use crate::records::read_matrices;
 use crate::records::read_matrix;
@@ -49,12 +49,6 @@ pub(crate) fn run_positions() {
     );
     print_verdict(v);
     crate::records::print_triples(&out, room);
-}
-
-fn print_basis(m: Basis) {
-    print_triple(m[0]);
-    print_triple(m[1]);
-    print_triple(m[2]);
 }
 
 pub(crate) fn run_lattice() {
