@@ -9,11 +9,13 @@ use lib.IntN.{ℤ, pos, negsuc}
 use lib.Ieee.{binary64, ofBits, toBits, round, size, odd, ofFields, units, span, climb, add, sub, sum, neg, mul, div}
 use lib.Ieee.{rem, ofInt}
 use lib.Count.{trailingZeros}
+use lib.ListN.{replicate}
 use Rattle.definitions.specs.declared.Centering.the-variants.{C}
 use Rattle.definitions.specs.declared.Verdict.the-variants.{Refused}
 use Rattle.definitions.specs.Lists.{all, count, each, first, those, upFrom}
 use Rattle.definitions.specs.Refusal.{precedence, upto, coordinates, determinant, _when_, Applies, NoneOf}
 use Rattle.definitions.specs.Refusal.{Returns, Checked, padded}
+use Rattle.definitions.specs.Limits.{most-sites, most-listed}
 use Rattle.definitions.specs.Matrix.{Matrix, mulM, det, inverse, identity}
 use Rattle.definitions.specs.Real.{zeroF, origin, roundAway}
 use Rattle.definitions.specs.Permutation.{isPermutation, inverseImage, after}
@@ -26,6 +28,8 @@ use Rattle.definitions.specs.Cell.{reduced, listedPositions, listedPoint
 use Rattle.definitions.specs.Orbit.{multiplicities, orbit, orbits}
 use Rattle.definitions.specs.Coordinates.{Signed, Term, Triplet, x, axis, times, whole, fraction, plus, minus}
 use Rattle.definitions.specs.Coordinates.{printTerm, termRow, constant, print, rows, originOf}
+use Rattle.definitions.specs.Standardize.{listedRooms}
+use Rattle.definitions.specs.WholeCalls.{ample}
 
 -- ---- refusals
 
@@ -44,6 +48,11 @@ lower-first = (inl tt, (λ a. a, (λ a. a, (λ a. a, (λ a. a, (λ a. a, tt)))))
 -- an answer at the front, zero behind it
 zero-behind : padded {A = ℕ} 0 (7 ∷ 8 ∷ []) 4 ≡ 7 ∷ 8 ∷ 0 ∷ 0 ∷ []
 zero-behind = refl
+
+-- ---- room: the report's lists have a cell for each of the most sites that are listed, and of the most that are given
+
+enough-room : (listedRooms ample ≡ replicate 7 most-listed) × (ample .primitive ≡ most-sites)
+enough-room = (refl, refl)
 
 -- ---- permutations: 1 2 0
 
