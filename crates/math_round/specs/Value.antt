@@ -2,15 +2,15 @@
 -- half.
 use Prim.Native.Nat.{ℕ, zero, suc, _+_, _*_, _-_, _/_, _%_, _^_, _≤_, _<_, compare}
 use mathlib.Core.Path.{_≡_, refl, sym, ap, _∙_, subst}
-use mathlib.Core.Bool.{Bool, true, false, cond}
+use mathlib.Core.Bool.{Bool, true, false, not, cond}
 use native.Mathlib.Omega.{arith}
-use native.Mathlib.Nat.{mul-pos, mul-one, mul-le-mul, le-of-suc-le-suc, div-eq-of-lt, div-lt-iff-lt-mul}
-use lib.Dec.{T, ltb}
+use native.Mathlib.Nat.{add-zero, mul-pos, mul-one, mul-le-mul, le-of-suc-le-suc, div-eq-of-lt, div-lt-iff-lt-mul}
+use lib.Dec.{T, eqb, ltb}
 use lib.Pow.{pow-add, pow-pos, pow-mono, shl-lt}
-use lib.Ieee.{Float, nan, inf, fin, binary64, up, down, size, nearest, round, odd, units, neg, fits, low}
+use lib.Ieee.{Float, nan, inf, fin, binary64, up, down, size, nearest, round, odd, units, neg, fits, low, isNan, toBits}
 use lib.Ieee.Fits.{down-pos, round-is, round-fits}
 use lib.Ieee.Exact.{HasValue, round-exact}
-use lib.Ieee.Back.{whole-unique}
+use lib.Ieee.Back.{round-whole, whole-unique}
 use lib.Ieee.Nearest.{div-same}
 use Rattle.definitions.specs.Real.{roundAway}
 
@@ -110,3 +110,30 @@ neg-round a c =
     ap neg (round-is binary64 false a c)
     ∙ neg-units (nearest (n / (c * 2 ^ k)) (compare (n % (c * 2 ^ k) * 2) (c * 2 ^ k))) k
     ∙ sym (round-is binary64 true a c)
+
+-- a float that is a whole number is a number
+pub whole-number : (v : Float) (g : Bool) (n : ℕ) → HasValue v g n 1 → T (not (isNan v))
+unfolding isNan
+whole-number nan g n h = absurd h
+whole-number (inf s) g n h = tt
+whole-number (fin s m e) g n h = tt
+
+-- the sign is the highest bit
+neg-bits : (v : Float) (n : ℕ) → HasValue v false n 1 → toBits binary64 v + 2 ^ 63 ≡ toBits binary64 (neg v)
+unfolding neg toBits
+neg-bits nan n h = absurd h
+neg-bits (inf s) n h = absurd h
+neg-bits (fin true m e) n h = absurd (subst T (h .0) tt)
+neg-bits (fin false m e) n h =
+    let u = m * up e * 2 ^ 1074 / down e in
+    let k = size u - 53 in
+    above (k * 2 ^ 52) (u / 2 ^ k)
+  where
+    above : (a b : ℕ) → 0 + a + b + 2 ^ 63 ≡ 2 ^ 63 + a + b
+    above a b = omega arith
+
+pub signed-bits : (n s : ℕ) → n ≤ 2 ^ 53 → s < 2
+    → toBits binary64 (round binary64 false n 1) + s * 2 ^ 63 ≡ toBits binary64 (round binary64 (eqb s 1) n 1)
+signed-bits n zero h l = add-zero (toBits binary64 (round binary64 false n 1))
+signed-bits n (suc zero) h l = neg-bits (round binary64 false n 1) n (round-whole binary64 false n h) ∙ ap (toBits binary64) (neg-round n 1)
+signed-bits n (suc (suc s)) h l = absurd (omega arith)

@@ -25,15 +25,14 @@ fn nearest_part(digits: u64, field: u64) -> u64
     (halves + 1) / 2
 }
 
-// a whole number as a float, with a sign: also -0. Read from a table, as a processor guesses wrong at every second
-// sign.
+// A whole number as a float, with a sign: also -0. The sign's bit is added, as a processor guesses wrong at every second
+// sign; and through an i64, which it converts in one step.
 fn signed_whole(n: u64, sign: u64) -> f64
     requires { ⌜ (n ≤ 2 ^ 53) × (sign < 2) ⌝ }
     ensures { λ r. ⌜ r ≡ Ieee.round binary64 (eqb sign 1) n 1 ⌝ }
 {
-    let size = n as f64;
-    let signed = [size, -size];
-    signed[sign as usize]
+    let size = (n as i64) as f64;
+    f64::from_bits(f64::to_bits(size) + sign * 9223372036854775808)
 }
 
 // By the pattern's fields: from 1075 on a float is whole already.
