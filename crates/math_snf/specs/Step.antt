@@ -10,7 +10,7 @@ use Rattle.definitions.specs.Lists.{all, each}
 use Rattle.math_snf.specs.declared.Pivot.{Pivot}
 use Rattle.math_snf.specs.declared.Pivot.the-variants.{At, Nothing}
 use Rattle.definitions.specs.Matrix.{Matrix, at, mat}
-use Rattle.definitions.specs.Snf.{State, Pass, Place, Stage, lesser, clearRow, clearColumn, pass, Run, allAssigned}
+use Rattle.definitions.specs.Snf.{State, Pass, Place, Stage, clearRow, clearColumn, pass, Run, allAssigned}
 use Rattle.definitions.specs.Limits.{small}
 use Rattle.math_snf_laws.specs.Cases.{plain}
 
@@ -55,13 +55,6 @@ placeOf Nothing = none
 abbrev pub Inside : Pivot → Type 0
 Inside (At i j) = (i < 3) × (j < 3)
 Inside Nothing = Unit {0}
-
--- places with a row or a column before s are passed over
-abbrev pub lesserFrom : ℕ → Matrix → Place → Option Place → Option Place
-lesserFrom s m p o = cond (ltb (p .0) s) o (cond (ltb (p .1) s) o (lesser m p o))
-
-abbrev pub leastInRow : ℕ → Matrix → ℕ → Option Place → Option Place
-leastInRow s m i o = lesserFrom s m (i, 0) (lesserFrom s m (i, 1) (lesserFrom s m (i, 2) o))
 
 -- the next pass of the stage s, which does nothing where no pivot is left
 abbrev pub passAt : ℕ → State → Option Place → Pass

@@ -2,17 +2,18 @@
 ghost use mathlib.Core.Path.{_≡_};
 ghost use mathlib.Core.Bool.{_&&_, cond};
 ghost use mathlib.Core.List.{[], _∷_};
-ghost use Prim.Native.Nat.{_<_};
+ghost use Prim.Native.Nat.{_<_, min};
 ghost use lib.Dec.{eqb};
-ghost use lib.IntN.{pos, natAbs, _-ℤ_, _*ℤ_};
+ghost use lib.IntN.{_-ℤ_, _*ℤ_};
 ghost use lib.Signed.{quotZ};
 ghost use Rattle.definitions.specs.Lists.{all};
 ghost use Rattle.definitions.specs.Matrix.{Matrix, at, item, three, identity};
 ghost use Rattle.definitions.specs.Snf.{swapped, swapRows, swapColumns, row, column};
-ghost use Rattle.definitions.specs.Snf.{lesser, pivot, moved, signed, cleared};
+ghost use Rattle.definitions.specs.Snf.{pivot, moved, signed, cleared};
 ghost use Rattle.math_snf_laws.specs.Cases.{plain};
 ghost use Rattle.math_snf.specs.Step.{kept, keptRow, keptColumn, worse, dlr, Graded, rowBelow, columnRight};
-ghost use Rattle.math_snf.specs.Step.{placeOf, Inside, lesserFrom, leastInRow, passAt, Ended, Ran};
+ghost use Rattle.math_snf.specs.Step.{placeOf, Inside, passAt, Ended, Ran};
+ghost use Rattle.math_snf.specs.Key.{keyAt, pairKey, rowKey, leastKey};
 ghost use Rattle.definitions.specs.Lent.{zeroMatrix};
 ghost use Rattle.definitions.specs.Calls.{SnfPromise};
 ghost use Rattle.definitions.specs.declared.Verdict.the-variants.{Refused};
@@ -24,6 +25,9 @@ use definitions::SnfMatrix;
 use definitions::Verdict;
 use definitions::refusal;
 use math_matrix::widened;
+
+// past the key of every place
+const NO_KEY: usize = 1000000;
 
 // the place of the pivot, if one is left
 enum Pivot {
@@ -228,56 +232,54 @@ fn column_small(m: SnfMatrix, j: usize) -> bool
 
 // ---- the pivot
 
-fn size_at(m: SnfMatrix, i: usize, j: usize) -> usize
+// The key of a place orders as the pivot does: by the magnitude, then by the place in row order. The least key is had
+// without a branch: which entry is the least is what a processor guesses wrong.
+fn key_at(m: SnfMatrix, i: usize, j: usize) -> usize
     requires { ⌜ (i < 3) × (j < 3) ⌝ }
-    ensures { λ r. ⌜ r ≡ natAbs (at m i j) ⌝ }
+    ensures { λ r. ⌜ r ≡ keyAt m i j ⌝ }
 {
-    magnitude16(m[i][j])
-}
-
-fn lesser_place(m: SnfMatrix, i: usize, j: usize, q: Pivot) -> Pivot
-    requires { ⌜ (i < 3) × (j < 3) × (Inside q) ⌝ }
-    ensures { λ r. ⌜ placeOf r ≡ lesser m (i, j) (placeOf q) ⌝ }
-    ensures { λ r. ⌜ Inside r ⌝ }
-{
-    let a = size_at(m, i, j);
+    let a = magnitude16(m[i][j]);
     if a == 0 {
-        return q;
+        return NO_KEY;
     }
-    match q {
-        Pivot::Nothing => Pivot::At(i, j),
-        Pivot::At(x, y) => {
-            if a <= size_at(m, x, y) {
-                Pivot::At(i, j)
-            } else {
-                Pivot::At(x, y)
-            }
-        }
-    }
+    16 * a + 4 * i + j
 }
 
-fn lesser_from(m: SnfMatrix, s: usize, i: usize, j: usize, q: Pivot) -> Pivot
-    requires { ⌜ (i < 3) × (j < 3) × (Inside q) ⌝ }
-    ensures { λ r. ⌜ placeOf r ≡ lesserFrom s m (i, j) (placeOf q) ⌝ }
-    ensures { λ r. ⌜ Inside r ⌝ }
+fn lower(a: usize, b: usize) -> usize
+    ensures { λ r. ⌜ r ≡ min a b ⌝ }
 {
-    if i < s {
-        return q;
+    if a < b {
+        return a;
     }
-    if j < s {
-        return q;
-    }
-    lesser_place(m, i, j, q)
+    b
 }
 
-fn least_in_row(m: SnfMatrix, s: usize, i: usize, q: Pivot) -> Pivot
-    requires { ⌜ (i < 3) × (Inside q) ⌝ }
-    ensures { λ r. ⌜ placeOf r ≡ leastInRow s m i (placeOf q) ⌝ }
-    ensures { λ r. ⌜ Inside r ⌝ }
+// the least key of a row's last two places, and of its three
+fn pair_key(m: SnfMatrix, i: usize) -> usize
+    requires { ⌜ i < 3 ⌝ }
+    ensures { λ r. ⌜ r ≡ pairKey m i ⌝ }
 {
-    let x = lesser_from(m, s, i, 2, q);
-    let y = lesser_from(m, s, i, 1, x);
-    lesser_from(m, s, i, 0, y)
+    lower(key_at(m, i, 1), key_at(m, i, 2))
+}
+
+fn row_key(m: SnfMatrix, i: usize) -> usize
+    requires { ⌜ i < 3 ⌝ }
+    ensures { λ r. ⌜ r ≡ rowKey m i ⌝ }
+{
+    lower(key_at(m, i, 0), pair_key(m, i))
+}
+
+fn least_key(m: SnfMatrix, s: usize) -> usize
+    requires { ⌜ s < 3 ⌝ }
+    ensures { λ r. ⌜ r ≡ leastKey s m ⌝ }
+{
+    if s == 2 {
+        return key_at(m, 2, 2);
+    }
+    if s == 1 {
+        return lower(pair_key(m, 1), pair_key(m, 2));
+    }
+    lower(row_key(m, 0), lower(row_key(m, 1), row_key(m, 2)))
 }
 
 // of least magnitude, the first in row order
@@ -286,9 +288,11 @@ fn pivot_from(m: SnfMatrix, s: usize) -> Pivot
     ensures { λ r. ⌜ placeOf r ≡ pivot s m ⌝ }
     ensures { λ r. ⌜ Inside r ⌝ }
 {
-    let x = least_in_row(m, s, 2, Pivot::Nothing);
-    let y = least_in_row(m, s, 1, x);
-    least_in_row(m, s, 0, y)
+    let k = least_key(m, s);
+    if k == NO_KEY {
+        return Pivot::Nothing;
+    }
+    Pivot::At(k / 4 % 4, k % 4)
 }
 
 // ---- the steps of a pass, each with its grade: 0 nothing was cleared, 1 something was, 2 an assigned entry has left
