@@ -159,6 +159,52 @@ module _ {n : ℕ} {par : List ℕ} (f : Forest n par)
           ∙ rest
           ∙ ap (replaced b s) (sym (root-up f x h))
 
+-- ---- a site directly under its root
+
+module _ {n : ℕ} {par : List ℕ} (f : Forest n par) (i : ℕ) (hi : i < n) where
+  at-i : getD (set par i (root par i)) i 0 ≡ root par i
+  at-i = getD-set-same par i (root par i) 0 (omega (arith, f .size))
+
+  -- another site keeps its parent
+  not-i : (x : ℕ) → (x ≡ i → ⊥) → getD (set par i (root par i)) x 0 ≡ getD par x 0
+  not-i x ne = getD-set-other par i x (root par i) 0 ne
+
+  short-forest : Forest n (set par i (root par i))
+  short-forest = record { size = length-set par i (root par i) ∙ f .size; down = λ x h. down x h (eqb x i) refl }
+    where
+      down : (x : ℕ) → x < n → (t : Bool) → eqb x i ≡ t → getD (set par i (root par i)) x 0 ≤ x
+      down x h true e = let q = eqb-true x i e in rw q (omega (arith, at-i, root-le f i hi))
+      down x h false e = omega (arith, not-i x (eqb-false x i e), f .down x h)
+
+  -- a root stays one
+  top-stays : (x : ℕ) → getD par x 0 ≡ x → getD (set par i (root par i)) x 0 ≡ x
+  top-stays x e = by (eqb x i) refl
+    where
+      by : (t : Bool) → eqb x i ≡ t → getD (set par i (root par i)) x 0 ≡ x
+      by true q = let same = eqb-true x i q in rw same (at-i ∙ root-top par i (rw same at e))
+      by false q = not-i x (eqb-false x i q) ∙ e
+
+  short-root : (x : ℕ) → x < n → root (set par i (root par i)) x ≡ root par x
+  short-root =
+      up-ind f (λ x. root (set par i (root par i)) x ≡ root par x)
+      (λ x e. root-top (set par i (root par i)) x (top-stays x e) ∙ sym (root-top par x e))
+      (λ x h less rest. up x h rest (eqb x i) refl)
+    where
+      up :
+          (x : ℕ) → x < n → root (set par i (root par i)) (getD par x 0) ≡ root par (getD par x 0) → (t : Bool) →
+          eqb x i ≡ t → root (set par i (root par i)) x ≡ root par x
+      up x h rest true e =
+          let q = eqb-true x i e in
+          rw q
+          (root-up short-forest i hi
+          ∙ ap (root (set par i (root par i))) at-i
+          ∙ root-top (set par i (root par i)) (root par i) (top-stays (root par i) (root-root f i hi)))
+      up x h rest false e =
+          root-up short-forest x h
+          ∙ ap (root (set par i (root par i))) (not-i x (eqb-false x i e))
+          ∙ rest
+          ∙ sym (root-up f x h)
+
 -- ---- trees that are joined
 
 -- sites of one root are joined by the permutations ps
@@ -218,6 +264,64 @@ linked-under {n} {par} f i j hi hj order =
     joins : (x y : ℕ) → x < n → y < n → Pair i j x y → root after x ≡ root after y
     joins x y hx hy (p, q) =
         rw (p, q) (moved i hi ∙ replaced-is b s b refl ∙ sym (replaced-into b s) ∙ sym (moved j hj))
+
+-- a site directly under its root, which is s
+pub linked-short :
+    {n : ℕ} {R : ℕ → ℕ → Type 0} {a b : List ℕ} → Linked n R a b → (i s : ℕ) → i < n → root b i ≡ s →
+    Linked n R a (set b i s)
+linked-short {n} {R} {a} {b} l i s hi e =
+    subst
+    (λ r. Linked n R a (set b i r))
+    e
+    (record {
+      forest = short-forest f i hi;
+      keeps = λ x y hx hy e. same x hx ∙ l .keeps x y hx hy e ∙ sym (same y hy);
+      joins = λ x y hx hy r. same x hx ∙ l .joins x y hx hy r ∙ sym (same y hy);
+      least = λ ps only given x y hx hy e. l .least ps only given x y hx hy (sym (same x hx) ∙ e ∙ same y hy);
+    })
+  where
+    f : Forest n b
+    f = l .forest
+
+    same : (x : ℕ) → x < n → root (set b i (root b i)) x ≡ root b x
+    same = short-root f i hi
+
+-- the root of i under that of j, then both sites directly under it
+pub linked-pair :
+    {n : ℕ} {par : List ℕ} → Forest n par → (i j : ℕ) → i < n → j < n → root par j ≤ root par i →
+    Linked n (Pair i j) par (set (set (set par (root par i) (root par j)) i (root par j)) j (root par j))
+linked-pair {n} {par} f i j hi hj order =
+    linked-short (linked-short under i s hi (moved i hi ∙ replaced-is b s b refl)) j s hj
+    (short-is ∙ moved j hj ∙ replaced-into b s)
+  where
+    b : ℕ
+    b = root par i
+
+    s : ℕ
+    s = root par j
+
+    under : Linked n (Pair i j) par (set par b s)
+    under = linked-under f i j hi hj order
+
+    moved : (x : ℕ) → x < n → root (set par b s) x ≡ replaced b s (root par x)
+    moved = under-root f b s (root-below f i hi) (root-root f i hi) (root-root f j hj) order
+
+    short-is : root (set (set par b s) i s) j ≡ root (set par b s) j
+    short-is =
+        subst (λ r. root (set (set par b s) i r) j ≡ root (set par b s) j) (moved i hi ∙ replaced-is b s b refl)
+        (short-root (under .forest) i hi j hj)
+
+-- sites of one parent are of one tree
+pub linked-already :
+    {n : ℕ} {par : List ℕ} → Forest n par → (i j : ℕ) → i < n → j < n → getD par i 0 ≡ getD par j 0 →
+    Linked n (Pair i j) par par
+linked-already {n} {par} f i j hi hj e =
+    record {
+      forest = f;
+      keeps = λ x y hx hy e. e;
+      joins = λ x y hx hy p. rw (p .0, p .1) (root-up f i hi ∙ ap (root par) e ∙ sym (root-up f j hj));
+      least = λ ps only given. only;
+    }
 
 pub linked-flip : {n i j : ℕ} {a b : List ℕ} → Linked n (Pair j i) a b → Linked n (Pair i j) a b
 linked-flip l =

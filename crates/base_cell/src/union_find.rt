@@ -47,19 +47,31 @@ fn find(parent: &Sites, i: PrimSite) -> PrimSite
     PrimSite(at)
 }
 
-// The tree of i and that of j become one: the root that comes later under the other.
+// The tree of i and that of j become one: the root that comes later under the other, and i and j directly below it, so
+// that later ways up are short. Sites of one parent are of one tree already.
 fn union(parent: &mut Sites, i: PrimSite, j: PrimSite)
     requires { ⌜ (Forest most-sites (now parent)) × (i .0 < most-sites) × (j .0 < most-sites) ⌝ }
     ensures { λ _. ⌜ Linked most-sites (Pair (i .0) (j .0)) (now (parent .entry)) (now (parent .exit)) ⌝ }
 {
+    let p = i.0;
+    let q = j.0;
+    if parent[p] == parent[q] {
+        return;
+    }
     let a = find(parent, i);
     let b = find(parent, j);
     let x = a.0;
     let y = b.0;
     if x < y {
-        parent[y] = x as u8;
+        let top = x as u8;
+        parent[y] = top;
+        parent[q] = top;
+        parent[p] = top;
     } else {
-        parent[x] = y as u8;
+        let top = y as u8;
+        parent[x] = top;
+        parent[p] = top;
+        parent[q] = top;
     }
 }
 
