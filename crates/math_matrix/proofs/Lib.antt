@@ -1,3 +1,4 @@
 pub mod Shape
 pub mod Sizes
+pub mod MinorSizes
 pub mod Sums

@@ -2,13 +2,12 @@
 use Prim.Native.Nat.{ℕ, zero, suc, _*_, _≤_, zero-le}
 use mathlib.Core.Path.{_≡_, refl}
 use mathlib.Core.Bool.{Bool, true, false, cond}
-use mathlib.Core.List.{[]}
+use mathlib.Core.List.{List}
 use native.Mathlib.Omega.{arith}
 use lib.Dec.{eqb}
-use lib.ListN.{getD}
 use lib.IntN.{ℤ, pos, natAbs, _+ℤ_, _*ℤ_}
 use borrow.Author.Tests.{eqb-true}
-use Rattle.definitions.specs.Matrix.{Matrix, at, mat, item, three, dot, cofactor, det, next, after, unit, inverse}
+use Rattle.definitions.specs.Matrix.{Matrix, at, mat, item, three, dot, cofactor, det, next, after, unit}
 use Rattle.math_matrix.specs.Bounds.{abs-add, abs-sub, abs-mul-le}
 use Rattle.math_matrix.specs.Rows.{rowTimes}
 
@@ -41,29 +40,26 @@ three-all P f z h (suc zero) = h 1
 three-all P f z h (suc (suc zero)) = h 2
 three-all P f z h (suc (suc (suc j))) = z
 
-mat-all : (P : ℤ → Type 0) (f : ℕ → ℕ → ℤ) → P (pos 0) → ((i j : ℕ) → P (f i j)) → (i j : ℕ) → P (at (mat f) i j)
+pub mat-all : (P : ℤ → Type 0) (f : ℕ → ℕ → ℤ) → P (pos 0) → ((i j : ℕ) → P (f i j)) → (i j : ℕ) → P (at (mat f) i j)
 mat-all P f z h zero = three-all P (f 0) z (h 0)
 mat-all P f z h (suc zero) = three-all P (f 1) z (h 1)
 mat-all P f z h (suc (suc zero)) = three-all P (f 2) z (h 2)
 mat-all P f z h (suc (suc (suc i))) = λ j. z
 
-unit-abs : (z : ℤ) → natAbs (unit z) ≤ 1
+pub unit-abs : (z : ℤ) → natAbs (unit z) ≤ 1
 unit-abs z = by (eqb (natAbs z) 1) refl
   where
     by : (b : Bool) → eqb (natAbs z) 1 ≡ b → natAbs (cond b z (pos 0)) ≤ 1
     by true e = omega (arith, eqb-true (natAbs z) 1 e)
     by false e = omega arith
 
--- the inverse x of a matrix t of 8 bits times another, y, fits 32
-pub turned-small : {x y r : Matrix} (t : Matrix) → x ≡ inverse t → y ≡ r → Bound 128 t → Bound 128 r → (i j : ℕ) → natAbs (item (rowTimes (getD x i []) y) j) ≤ 2147483647
-turned-small {x} {y} t e d f h i j =
-    let k : Bound 32768 (inverse t) =
-    mat-all (λ z. natAbs z ≤ 32768) (λ i j. unit (det t) *ℤ cofactor t j i) zero-le (λ i j. abs-mul-le (unit (det t)) (cofactor t j i) 1 32768 (unit-abs (det t)) (cofactor-abs 128 t f j i)) in
-    let l : Bound 32768 x = rw e k in
-    let g : Bound 128 y = rw d h in
+-- a row of 16 bits times a matrix of 8 fits 32
+pub row-small :
+    (x : List ℤ) (y : Matrix) → ((j : ℕ) → natAbs (item x j) ≤ 32768) → Bound 128 y →
+    (j : ℕ) → natAbs (item (rowTimes x y) j) ≤ 2147483647
+row-small x y l g =
     three-all
     (λ z. natAbs z ≤ 2147483647)
-    (λ j. dot (at x i 0) (at x i 1) (at x i 2) (at y 0 j) (at y 1 j) (at y 2 j))
+    (λ j. dot (item x 0) (item x 1) (item x 2) (at y 0 j) (at y 1 j) (at y 2 j))
     zero-le
-    (λ j. omega (arith, dot-abs 32768 128 (at x i 0) (at x i 1) (at x i 2) (at y 0 j) (at y 1 j) (at y 2 j) (l i 0) (l i 1) (l i 2) (g 0 j) (g 1 j) (g 2 j)))
-    j
+    (λ j. omega (arith, dot-abs 32768 128 (item x 0) (item x 1) (item x 2) (at y 0 j) (at y 1 j) (at y 2 j) (l 0) (l 1) (l 2) (g 0 j) (g 1 j) (g 2 j)))

@@ -1,19 +1,18 @@
 -- What a function computes fits its width, so it is read back as it was computed.
-use Prim.Native.Nat.{ℕ, zero, suc, _+_, _*_, _≤_, _<_, _^_}
+use Prim.Native.Nat.{ℕ, _+_, _≤_, _<_, _^_}
 use mathlib.Core.Path.{_≡_, sym, subst, _∙_}
 use mathlib.Core.List.{List}
 use native.Mathlib.Omega.{arith}
-use native.Mathlib.Nat.{mul-le-mul, le-of-suc-le-suc}
 use lib.Dec.{T, ltb, leb→le, le→leb}
 use lib.Pow.{pow-add, pow-lt}
-use lib.IntN.{ℤ, pos, negsuc, negℤ, natAbs, _+ℤ_, _-ℤ_, _*ℤ_}
+use lib.IntN.{ℤ, natAbs, _+ℤ_, _*ℤ_}
 use lib.Signed.{mag}
 use mir.Syntax.{Width, w16, w32, w64}
 use mir.Val.{SFits, hbits, toZ, ofZ}
 use mir.ValLaws.{toZ-ofZ}
 use mir.Facts.{sfits-widen}
-use Rattle.definitions.specs.Matrix.{item, three, minor}
-use Rattle.math_matrix.specs.Bounds.{abs-less, abs-add, abs-sub, abs-mul-le, abs-fits, fits-abs, back}
+use Rattle.definitions.specs.Matrix.{item, three}
+use Rattle.math_matrix.specs.Bounds.{abs-add, abs-mul-le, abs-fits, fits-abs, back}
 use Rattle.math_matrix.specs.Rows.{dotOf}
 use Rattle.math_matrix.proofs.Sizes.{dot-abs}
 
@@ -68,31 +67,6 @@ multiplied u v w {a} {b} t f g =
 -- the result z of a call that multiplies stored numbers
 pub told-product : (u v w : Width) {a b z : ℤ} → SFits u a → SFits v b → mag z < 2 ^ hbits w → z ≡ read u a *ℤ read v b → read w z ≡ a *ℤ b
 told-product u v w {a} {b} f g h e = told w h (e ∙ (λ i. toZ-ofZ u a f i *ℤ toZ-ofZ v b g i))
-
--- ---- A minor of numbers of 16 bits fits 32: a product of two is 2³⁰ at the most, and above -2³⁰ since none is 32768.
-
-abbrev Between : ℤ → Type 0
-Between (pos n) = n ≤ 1073741824
-Between (negsuc n) = n < 1073709056
-
-below-0 : (n : ℕ) → n ≤ 1073709056 → Between (negℤ (pos n))
-below-0 zero h = omega arith
-below-0 (suc n) h = omega arith
-
-between : (a b : ℤ) → SFits w16 a → SFits w16 b → Between (a *ℤ b)
-between (pos a) (pos b) f g = omega (arith, abs-mul-le (pos a) (pos b) 32768 32768 (abs-fits w16 (pos a) f) (abs-fits w16 (pos b) g))
-between (pos a) (negsuc b) f g = below-0 (a * suc b) (mul-le-mul (le-of-suc-le-suc (f .sfits)) (g .sfits))
-between (negsuc a) (pos b) f g = below-0 (suc a * b) (mul-le-mul (f .sfits) (le-of-suc-le-suc (g .sfits)))
-between (negsuc a) (negsuc b) f g = mul-le-mul (f .sfits) (g .sfits)
-
-less : (x y : ℤ) → Between x → Between y → natAbs (x -ℤ y) < 2147483648
-less (pos a) (pos b) f g = omega (arith, abs-less a b 1073741824 f g)
-less (pos a) (negsuc b) f g = omega (arith, abs-sub (pos a) (negsuc b))
-less (negsuc a) (pos b) f g = omega (arith, abs-sub (negsuc a) (pos b))
-less (negsuc a) (negsuc b) f g = omega (arith, abs-sub (negsuc a) (negsuc b))
-
-pub minor-fits : {a b c d : ℤ} → SFits w16 a → SFits w16 b → SFits w16 c → SFits w16 d → SFits w32 (minor a b c d)
-minor-fits {a} {b} {c} {d} f g h k = fits-abs w32 (minor a b c d) (less (a *ℤ d) (b *ℤ c) (between a d f k) (between b c g h))
 
 -- ---- the sums of the products p, q and r of the rows x and a
 

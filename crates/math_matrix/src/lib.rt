@@ -145,23 +145,52 @@ fn narrow_row(x: [i64; 3]) -> [i32; 3]
     [x[0] as i32, x[1] as i32, x[2] as i32]
 }
 
-// a row times r, then t
-fn row_times_both(x: [i32; 3], r: SnfMatrix, t: SnfMatrix) -> [i64; 3]
-    requires { ⌜ ((j : ℕ) → natAbs (item (rowTimes x r) j) ≤ 2147483647) ⌝ }
+fn long_row(x: [i16; 3]) -> [i32; 3]
+    ensures { λ r. ⌜ r ≡ three (item x) ⌝ }
+{
+    [x[0] as i32, x[1] as i32, x[2] as i32]
+}
+
+fn short_row(x: [i32; 3]) -> [i16; 3]
+    requires { ⌜ ((j : ℕ) → natAbs (item x j) ≤ 32767) ⌝ }
+    ensures { λ r. ⌜ r ≡ three (item x) ⌝ }
+{
+    [x[0] as i16, x[1] as i16, x[2] as i16]
+}
+
+// a row times r, whose entries are those of a rotation, then t
+fn row_times_both(x: [i16; 3], r: SnfMatrix, t: SnfMatrix) -> [i64; 3]
+    requires { ⌜ ((i j : ℕ) → natAbs (at r i j) ≤ 128) ⌝ }
     ensures { λ s. ⌜ s ≡ rowTimes (rowTimes x r) t ⌝ }
 {
-    row_times(narrow_row(row_times(x, r)), t)
+    row_times(narrow_row(row_times(long_row(x), r)), t)
+}
+
+// The inverse where t is unimodular: a minor of numbers of 8 bits has 16.
+pub fn unimodular_inverse(t: Linear) -> SnfMatrix
+    ensures { λ r. ⌜ r ≡ inverseOf t ⌝ }
+{
+    let i = inverse(widened(t));
+    let r0 = short_row(i[0]);
+    let r1 = short_row(i[1]);
+    let r2 = short_row(i[2]);
+    [r0, r1, r2]
+}
+
+// i r t: for an i that is worked out once and many rotations
+pub fn transform_by(i: SnfMatrix, t: SnfMatrix, r: Rotation) -> Integers
+    ensures { λ s. ⌜ s ≡ mulM (mulM i r) t ⌝ }
+{
+    let a = widened(r);
+    let r0 = row_times_both(i[0], a, t);
+    let r1 = row_times_both(i[1], a, t);
+    let r2 = row_times_both(i[2], a, t);
+    [r0, r1, r2]
 }
 
 // t⁻¹ r t (moyo's `UnimodularTransformation::transform_operation`)
 pub fn transform(t: Linear, r: Rotation) -> Integers
     ensures { λ s. ⌜ s ≡ mulM (mulM (inverseOf t) r) t ⌝ }
 {
-    let b = widened(t);
-    let a = widened(r);
-    let i = inverse(b);
-    let r0 = row_times_both(i[0], a, b);
-    let r1 = row_times_both(i[1], a, b);
-    let r2 = row_times_both(i[2], a, b);
-    [r0, r1, r2]
+    transform_by(unimodular_inverse(t), widened(t), r)
 }

@@ -2,7 +2,9 @@
 use definitions::Integers;
 use definitions::Linear;
 use definitions::Rotation;
-use math_matrix::transform;
+use math_matrix::transform_by;
+use math_matrix::unimodular_inverse;
+use math_matrix::widened;
 ghost use Prim.Native.Nat.{_≤_};
 ghost use mathlib.Core.Path.{_≡_};
 ghost use mathlib.Core.List.{_++_, map};
@@ -41,6 +43,7 @@ fn same(a: Integers, b: Rotation) -> bool
 
 // ---- lists of them
 
+// t⁻¹ r t of each, with t⁻¹ worked out once
 pub(crate) fn put_transformed(t: Linear, rotations: &[Rotation], moved: &mut [Integers])
     requires { ⌜ length (now rotations) ≤ length (now moved) ⌝ }
     ensures { λ _. ⌜
@@ -48,9 +51,11 @@ pub(crate) fn put_transformed(t: Linear, rotations: &[Rotation], moved: &mut [In
         ≡ map (transformRotation t) (now (rotations .entry))
         ++ drop (length (now (rotations .entry))) (now (moved .entry)) ⌝ }
 {
+    let inverse = unimodular_inverse(t);
+    let by = widened(t);
     let mut i: usize = 0;
     while i < rotations.len() {
-        moved[i] = transform(t, rotations[i]);
+        moved[i] = transform_by(inverse, by, rotations[i]);
         i += 1;
     }
 }

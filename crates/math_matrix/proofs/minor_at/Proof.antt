@@ -7,7 +7,8 @@ use mir.Val.{SFits, toZ, ofZ}
 use borrow.Author.Needs.{needs}
 use Rattle.definitions.specs.Matrix.{item, minor}
 use Rattle.math_matrix.proofs.Shape.{good-item}
-use Rattle.math_matrix.proofs.Sums.{is-fits, is-back, told-product, minor-fits}
+use Rattle.math_matrix.proofs.MinorSizes.{minor-fits}
+use Rattle.math_matrix.proofs.Sums.{is-fits, is-back, told-product}
 use Rattle.math_matrix.proofs.minor_at.Statement.{statement}
 use Rattle.math_matrix.proofs.minor_at.Tie as tie
 
