@@ -38,14 +38,26 @@ pub fn apply(m: Basis, p: Position) -> Position
     }
 }
 
+// A float between -1 and 1 is its own remainder: a division is spared where coordinates are reduced already.
+fn modulo_one(x: f64) -> f64
+    ensures { λ r. ⌜ r ≡ reduced x ⌝ }
+{
+    if -1.0 < x {
+        if x < 1.0 {
+            return x;
+        }
+    }
+    x % 1.0
+}
+
 // each coordinate modulo 1, with its own sign
 pub fn remainder(p: Position) -> Position
     ensures { λ r. ⌜ r ≡ mapP reduced p ⌝ }
 {
     Position {
-        x: p.x % 1.0,
-        y: p.y % 1.0,
-        z: p.z % 1.0,
+        x: modulo_one(p.x),
+        y: modulo_one(p.y),
+        z: modulo_one(p.z),
     }
 }
 

@@ -1,12 +1,16 @@
--- The remainder that `reduced` names, coordinate by coordinate.
+-- `remainder`: coordinate by coordinate.
 use borrow.Author.Needs.{needs}
-use Rattle.definitions.specs.Cell.{reduced}
 use Rattle.math_real.proofs.position.remainder.Statement.{statement}
 use Rattle.math_real.proofs.position.remainder.Tie as tie
 
 returns : tie.Need-returns
-unfolding reduced
-returns c = search needs
+returns c =
+    λ k.
+    record {
+      x = c .before .before .modulo-one .ensures k;
+      y = c .before .modulo-one2 .ensures k;
+      z = c .modulo-one3 .ensures k;
+    }
 
 pub remainder-spec : {M : Type 1} → statement M
-remainder-spec = tie.close (tie.spec returns)
+remainder-spec = tie.close (tie.spec (search needs) (search needs) (search needs) returns)
