@@ -1,5 +1,5 @@
 -- The limits of "Refused by what was given" and "by what the work became", each once, and the test of each.
-use Prim.Native.Nat.{ℕ}
+use Prim.Native.Nat.{ℕ, _*_}
 use mathlib.Core.Bool.{Bool, false, not, _&&_, _||_}
 use lib.Dec.{leb, ltb, eqb}
 use lib.IntN.{ℤ, pos, natAbs}
@@ -28,6 +28,10 @@ most-operations = 96
 
 abbrev pub notSome : ℕ → Bool
 notSome n = eqb n 0 || ltb most-operations n
+
+-- the images of the most permutations of the most sites
+abbrev pub most-images : ℕ
+most-images = most-operations * most-sites
 
 -- "candidates over 64"
 abbrev pub most-candidates : ℕ

@@ -18,7 +18,7 @@ use Rattle.definitions.specs.Refusal.{Condition, _when_, job-bytes, coun
 use Rattle.definitions.specs.Refusal.{lattice}
 use Rattle.definitions.specs.Refusal.{Outcome, accepted, refused, Returns, Answered, Holds}
 use Rattle.definitions.specs.Matrix.{Matrix}
-use Rattle.definitions.specs.Limits.{text-bytes, shorterThan}
+use Rattle.definitions.specs.Limits.{text-bytes, most-sites, most-listed, shorterThan}
 use Rattle.definitions.specs.Real.{RealMatrix, zeroF, origin}
 use Rattle.definitions.specs.Job.{Parts, IsJob, NoJob, Job, float, positionOf, rowsOf, centringOf, jobOf}
 use Rattle.definitions.specs.Lent.{cellsOf, zeroCells, zeroPoint, zeroMatrix, zeroBasis, operationsFrom}
@@ -277,14 +277,14 @@ ReadPromise bs entry exit r =
 abbrev pub ample : Rooms
 ample =
     record {
-      positions = 1024;
-      points = 1024;
-      mapping = 1024;
-      elements = 1024;
-      labels = 1024;
-      multiplicities = 1024;
-      letters = 1024;
-      primitive = 256;
+      positions = most-listed;
+      points = most-listed;
+      mapping = most-listed;
+      elements = most-listed;
+      labels = most-listed;
+      multiplicities = most-listed;
+      letters = most-listed;
+      primitive = most-sites;
     }
 
 -- the lists that a report shows

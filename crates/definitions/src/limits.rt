@@ -1,9 +1,14 @@
 // Limits that several functions test or lend by, as definitions/specs/Limits.antt has them. A limit that one function
 // alone tests
 // stands in that function: -31..31 and 1 to 64 copies in checks, -511..511 in math_snf.
+pub const MOST_BYTES: usize = 65536;
+
 pub const MOST_SITES: usize = 256;
 
 pub const MOST_OPERATIONS: usize = 96;
+
+// The images of the most permutations of the most sites.
+pub const MOST_IMAGES: usize = 24576;
 
 pub const MOST_CANDIDATES: usize = 64;
 

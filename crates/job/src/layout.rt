@@ -2,6 +2,7 @@
 // N 9, Z 1.
 use definitions::JobCounts;
 use definitions::JobRead;
+use definitions::limits::MOST_BYTES;
 use definitions::refusal;
 ghost use Prim.Native.Nat.{_+_, _<_, _≤_};
 ghost use mathlib.Core.Path.{_≡_};
@@ -101,7 +102,7 @@ fn closes(bytes: &[u8], at: usize) -> bool
 pub(crate) fn counted(bytes: &[u8]) -> JobRead
     ensures { λ r. ⌜ Counted (now (bytes .entry)) r ⌝ }
 {
-    if 65536 < bytes.len() {
+    if MOST_BYTES < bytes.len() {
         return JobRead::Refused(refusal::JOB_BYTES);
     }
     if !opens(bytes) {

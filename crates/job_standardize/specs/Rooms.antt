@@ -10,7 +10,7 @@ use lib.IntN.{pos}
 use lib.Dec.{T, ltb}
 use Rattle.definitions.specs.Lists.{any}
 use Rattle.definitions.specs.Limits.{tooManySites, notSome, tooManyCandidates, shorterThan}
-use Rattle.definitions.specs.Limits.{most-sites, most-operations, most-candidates}
+use Rattle.definitions.specs.Limits.{most-sites, most-operations, most-images, most-candidates}
 use Rattle.definitions.specs.Job.{Parts, Job, jobOf, siteOf, operationOf, candidateOf, rowsOf}
 use Rattle.definitions.specs.Real.{zeroF}
 use Rattle.definitions.specs.Lent.{unlike, zeroCells, zeroMatrix, zeroBasis, positionFrom}
@@ -19,10 +19,6 @@ use Rattle.definitions.specs.WholeCalls.{Given, zeroText, tooShortFor}
 use Rattle.laws.specs.Lists.{any-none}
 use Rattle.laws.specs.Limits.{few, few-entries}
 use Rattle.laws.specs.Tests.{not-so, neither, neither-left, neither-right}
-
--- the greatest number of images
-abbrev pub most-images : ℕ
-most-images = most-operations * most-sites
 
 -- lists as long as a legal job may need
 pub record Ample (e : Given) : Type 0 where

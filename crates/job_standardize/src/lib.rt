@@ -9,6 +9,7 @@ use definitions::Rotation;
 use definitions::Standardized;
 use definitions::Text;
 use definitions::limits::MOST_CANDIDATES;
+use definitions::limits::MOST_IMAGES;
 use definitions::limits::MOST_OPERATIONS;
 use definitions::limits::MOST_SITES;
 use definitions::refusal;
@@ -21,9 +22,6 @@ ghost use Rattle.definitions.specs.Lent.{positionFrom};
 ghost use Rattle.definitions.specs.WholeCalls.{ListsPromise, BytesPromise};
 ghost use Rattle.job_standardize.specs.Taken.{Within, taken};
 ghost use Rattle.job_standardize.specs.Refused.{unread};
-
-// The images of the most permutations of the most sites.
-const MOST_IMAGES: usize = 24576;
 
 const NO_BASIS: Basis = [[0.0, 0.0, 0.0], [0.0, 0.0, 0.0], [0.0, 0.0, 0.0]];
 

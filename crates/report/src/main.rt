@@ -1,5 +1,6 @@
 // The report program: a job's bytes on standard input, its report on standard output. Only the reading and the writing
 // are trusted.
+use definitions::limits::MOST_BYTES;
 use definitions::limits::MOST_LISTED;
 use definitions::limits::MOST_SITES;
 use job_standardize::standardize_bytes;
@@ -14,7 +15,7 @@ ghost use Rattle.io.specs.Counts.{Counts};
 ghost use Rattle.report.specs.Input.{input-bytes};
 
 // one byte more than a job has at the most
-const INPUT_BYTES: usize = 65537;
+const INPUT_BYTES: usize = MOST_BYTES + 1;
 
 // Of a longer input the first bytes are read, and its report is theirs (specs/Input.antt).
 fn input_buffer() -> [u8; INPUT_BYTES]

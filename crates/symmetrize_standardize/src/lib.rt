@@ -18,6 +18,7 @@ use definitions::Standardized;
 use definitions::Text;
 use definitions::Verdict;
 use definitions::limits::MOST_CANDIDATES;
+use definitions::limits::MOST_IMAGES;
 use lent::clear_cells;
 use lent::clear_i32;
 use lent::clear_points;
@@ -30,9 +31,6 @@ ghost use lib.ListN.{length, take};
 ghost use Rattle.definitions.specs.Limits as Limits;
 ghost use Rattle.definitions.specs.WholeCalls.{HoldsAnswer, nothingAnswered, ListsPromise};
 ghost use Rattle.symmetrize_standardize.specs.Stages.{Roomy, CellListed, Finished, Uncleared};
-
-// The images of the most permutations of the most sites.
-const MOST_IMAGES: usize = 24576;
 
 const NO_BASIS: Basis = [[0.0, 0.0, 0.0], [0.0, 0.0, 0.0], [0.0, 0.0, 0.0]];
 
