@@ -77,7 +77,7 @@ squaresReal basis s p = map (λ o. squareReal basis s p (pointOf o)) offsets
 unfoldable pub matchReal : RealMatrix → Float → RealSpace → Position → Match
 matchReal basis symprec s p = firstNear symprec 0 (squaresReal basis s p)
 
--- ---- the outer offsets in columns
+-- ---- offsets in columns
 
 -- every dᵢ is 0
 abbrev pub zeroDiagonal : Position → Bool
@@ -87,26 +87,31 @@ zeroDiagonal d = eq (d .x) zeroF && eq (d .y) zeroF && eq (d .z) zeroF
 abbrev pub rowTimes : List Float → Position → Float
 rowTimes r p = rowSum (getD r 0 nan) (getD r 1 nan) (getD r 2 nan) (p .x) (p .y) (p .z)
 
--- a number for each of the 98
-pub record Column (f : ℕ → Float) (l : List Float) : Type 0 where
-  pub long : length l ≡ 98
-  pub each : (i : ℕ) → i < 98 → getD l i nan ≡ f i
+-- a number for each of n places
+pub record Column (n : ℕ) (f : ℕ → Float) (l : List Float) : Type 0 where
+  pub long : length l ≡ n
+  pub each : (i : ℕ) → i < n → getD l i nan ≡ f i
 
 -- the position at place i of three lists of coordinates
 abbrev pub cell : List Float → List Float → List Float → ℕ → Position
 cell xs ys zs i = record { x = getD xs i nan; y = getD ys i nan; z = getD zs i nan }
 
--- a position for each of the 98, an axis a column
-pub record Columns (f : ℕ → Position) (xs ys zs : List Float) : Type 0 where
-  pub x : Column (λ i. f i .x) xs
-  pub y : Column (λ i. f i .y) ys
-  pub z : Column (λ i. f i .z) zs
+-- a position for each of n places, an axis a column
+pub record Columns (n : ℕ) (f : ℕ → Position) (xs ys zs : List Float) : Type 0 where
+  pub x : Column n (λ i. f i .x) xs
+  pub y : Column n (λ i. f i .y) ys
+  pub z : Column n (λ i. f i .z) zs
 
--- the match by squares, one for each of the 98
-pub record NearColumn (symprec : Float) (f : ℕ → Float) (r : Match) : Type 0 where
+-- two more axes of n places
+pub record Beside (n : ℕ) (ys zs : List Float) : Type 0 where
+  pub y : length ys ≡ n
+  pub z : length zs ≡ n
+
+-- the match by squares, one for each of n places, counted from k
+pub record NearColumn (symprec : Float) (k n : ℕ) (f : ℕ → Float) (r : Match) : Type 0 where
   pub squares : List Float
-  pub column : Column f squares
-  pub near : r ≡ firstNear symprec 27 squares
+  pub column : Column n f squares
+  pub near : r ≡ firstNear symprec k squares
 
 -- ---- they are the definitions of document 01
 

@@ -1,9 +1,10 @@
-// The 27 inner offsets, one at a time: most fits are among them.
+// The 27 inner offsets: the first by itself, since most fits are there, then the others in one run.
 use crate::bound::near;
 use crate::fit;
 use crate::offsets::INNER_X;
 use crate::offsets::INNER_Y;
 use crate::offsets::INNER_Z;
+use crate::run::match_run;
 use definitions::Basis;
 use definitions::Match;
 use definitions::Position;
@@ -11,33 +12,79 @@ use math_real::position;
 ghost use mathlib.Core.Path.{_≡_};
 ghost use mathlib.Core.List.{map};
 ghost use Rattle.symmetrize_match.specs.Match.{spaceOf, IsBound, firstNear, squareReal};
-ghost use lib.ListN.{take};
-ghost use Rattle.definitions.specs.Real.{realOf};
+ghost use lib.ListN.{take, drop};
 ghost use Rattle.definitions.specs.Cell.{pointOf};
 ghost use Rattle.definitions.specs.Wyckoff.{offsets};
 
-fn real(x: i8) -> f64
-    ensures { λ r. ⌜ r ≡ realOf x ⌝ }
-{
-    x as f64
-}
-
-// The square of the distance at an offset.
-fn square_at(
+// The first offset, by itself.
+fn match_first(
     basis: Basis,
+    symprec: f64,
+    bound: f64,
     matrix: Basis,
     shift: Position,
     diagonal: Position,
     left: Basis,
     right: Basis,
     p: Position,
-    o: Position,
-) -> f64
-    ensures { λ r. ⌜ r ≡ squareReal basis (spaceOf matrix shift diagonal left right) p o ⌝ }
+) -> Match
+    requires { ⌜ IsBound symprec bound ⌝ }
+    ensures { λ r. ⌜
+        r
+        ≡ firstNear symprec 0
+        (map (λ o. squareReal basis (spaceOf matrix shift diagonal left right) p (pointOf o)) (take 1 offsets)) ⌝ }
 {
+    let o = Position {
+        x: -1.0,
+        y: -1.0,
+        z: -1.0,
+    };
     let v = fit::divided(diagonal, left, shift, p, o);
     let m = position::apply(matrix, position::apply(right, v));
-    fit::square_of(basis, fit::residual(m, shift, p, o))
+    let square = fit::square_of(basis, fit::residual(m, shift, p, o));
+    near(square, symprec, bound, 0)
+}
+
+// The other 26. A table is laid out where its function begins, so they have a function of their own.
+fn match_others(
+    basis: Basis,
+    symprec: f64,
+    bound: f64,
+    matrix: Basis,
+    shift: Position,
+    diagonal: Position,
+    left: Basis,
+    right: Basis,
+    p: Position,
+) -> Match
+    requires { ⌜ IsBound symprec bound ⌝ }
+    ensures { λ r. ⌜
+        r
+        ≡ firstNear symprec 1
+        (map (λ o. squareReal basis (spaceOf matrix shift diagonal left right) p (pointOf o))
+        (take 26 (drop 1 offsets))) ⌝ }
+{
+    let mut mx = [0.0; 26];
+    let mut my = [0.0; 26];
+    let mut mz = [0.0; 26];
+    match_run(
+        basis,
+        symprec,
+        bound,
+        matrix,
+        shift,
+        diagonal,
+        left,
+        right,
+        p,
+        &INNER_X,
+        &INNER_Y,
+        &INNER_Z,
+        &mut mx,
+        &mut my,
+        &mut mz,
+        1,
+    )
 }
 
 pub(crate) fn match_inner(
@@ -57,25 +104,29 @@ pub(crate) fn match_inner(
         ≡ firstNear symprec 0
         (map (λ o. squareReal basis (spaceOf matrix shift diagonal left right) p (pointOf o)) (take 27 offsets)) ⌝ }
 {
-    let xs = INNER_X;
-    let ys = INNER_Y;
-    let zs = INNER_Z;
-    let mut k: usize = 0;
-    while k < 27 {
-        let o = Position {
-            x: real(xs[k]),
-            y: real(ys[k]),
-            z: real(zs[k]),
-        };
-        let s = square_at(basis, matrix, shift, diagonal, left, right, p, o);
-        let tried = near(s, symprec, bound, k);
-        match tried {
-            Match::Fits(place, distance) => {
-                return Match::Fits(place, distance);
-            }
-            Match::Misses => {}
-        }
-        k += 1;
+    let tried = match_first(
+        basis,
+        symprec,
+        bound,
+        matrix,
+        shift,
+        diagonal,
+        left,
+        right,
+        p,
+    );
+    match tried {
+        Match::Fits(place, distance) => Match::Fits(place, distance),
+        Match::Misses => match_others(
+            basis,
+            symprec,
+            bound,
+            matrix,
+            shift,
+            diagonal,
+            left,
+            right,
+            p,
+        ),
     }
-    Match::Misses
 }

@@ -5,6 +5,7 @@ mod inner;
 mod offsets;
 mod outer;
 mod passes;
+mod run;
 
 use checks::good_symprec;
 use checks::lattice_within;

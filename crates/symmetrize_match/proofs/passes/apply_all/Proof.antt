@@ -1,15 +1,12 @@
+-- `apply_all` meets its contract: each position is read before it is written.
 use Prim.Native.Nat.{ℕ, _≤_, _<_, _+_, _-_}
 use native.Mathlib.Omega.{arith}
 use mathlib.Core.Path.{_≡_, refl, sym, ap, _∙_}
-use mathlib.Core.List.{map}
 use native.Mathlib.Nat.{not-suc-le-zero}
-use lib.ListN.{length, drop, take, getD, set, length-set}
-use lib.Ieee.{nan, binary64, div}
-use Rattle.definitions.specs.Real.{applyF, addP, subP}
-use Rattle.definitions.specs.Cell.{pointOf}
-use Rattle.definitions.specs.Wyckoff.{offsets}
-use Rattle.symmetrize_match.specs.Match.{firstNear, squareReal, square, cell, rowTimes, quotientReal}
-use Rattle.symmetrize_match.proofs.Near.{on-fit, on-miss, at-end}
+use lib.ListN.{length, getD, set, length-set}
+use lib.Ieee.{nan}
+use Rattle.definitions.specs.Real.{applyF}
+use Rattle.symmetrize_match.specs.Match.{cell}
 use Rattle.symmetrize_match.proofs.Stores.{made, left}
 use borrow.Author.Needs.{needs}
 use Rattle.symmetrize_match.proofs.passes.apply_all.Statement.{statement}
@@ -19,18 +16,23 @@ use Rattle.symmetrize_match.proofs.passes.apply_all.Lts as lts
 use Rattle.math_real.proofs.position.apply.Reads as apply-reads
 
 abbrev Inv-loop : tie.InvT-loop
-Inv-loop m xs₀ ys₀ zs₀ i₀ xs ys zs i = (i ≤ 98) × (length xs ≡ 98) × (length ys ≡ 98) × (length zs ≡ 98) × ((j : ℕ) → j < i → getD xs j nan ≡ applyF m (cell xs₀ ys₀ zs₀ j) .x) × ((j : ℕ) → j < i → getD ys j nan ≡ applyF m (cell xs₀ ys₀ zs₀ j) .y) × ((j : ℕ) → j < i → getD zs j nan ≡ applyF m (cell xs₀ ys₀ zs₀ j) .z) × ((j : ℕ) → i ≤ j → getD xs j nan ≡ getD xs₀ j nan) × ((j : ℕ) → i ≤ j → getD ys j nan ≡ getD ys₀ j nan) × ((j : ℕ) → i ≤ j → getD zs j nan ≡ getD zs₀ j nan)
+Inv-loop m xs₀ ys₀ zs₀ i₀ xs ys zs i =
+    (i ≤ length xs₀) × (length xs ≡ length xs₀) × (length ys ≡ length xs₀) × (length zs ≡ length xs₀)
+    × ((j : ℕ) → j < i → getD xs j nan ≡ applyF m (cell xs₀ ys₀ zs₀ j) .x)
+    × ((j : ℕ) → j < i → getD ys j nan ≡ applyF m (cell xs₀ ys₀ zs₀ j) .y)
+    × ((j : ℕ) → j < i → getD zs j nan ≡ applyF m (cell xs₀ ys₀ zs₀ j) .z)
+    × ((j : ℕ) → i ≤ j → getD xs j nan ≡ getD xs₀ j nan) × ((j : ℕ) → i ≤ j → getD ys j nan ≡ getD ys₀ j nan)
+    × ((j : ℕ) → i ≤ j → getD zs j nan ≡ getD zs₀ j nan)
 
 abbrev μ-loop : tie.MeasureT-loop
-μ-loop m xs₀ ys₀ zs₀ i₀ xs ys zs i = 98 - i
+μ-loop m xs₀ ys₀ zs₀ i₀ xs ys zs i = length xs₀ - i
 
--- src/passes.rt:53:5
 loop-holds : tie.Need-loop-holds Inv-loop μ-loop
 loop-holds c = (
   search needs,
-  c .pre .0,
-  c .pre .1,
-  c .pre .2,
+  refl,
+  c .before .before .before .pre .y,
+  c .before .before .before .pre .z,
   λ j h. absurd (not-suc-le-zero h),
   λ j h. absurd (not-suc-le-zero h),
   λ j h. absurd (not-suc-le-zero h),
@@ -39,11 +41,10 @@ loop-holds c = (
   λ j h. refl,
 )
 
--- src/passes.rt:53:5
 loop-again : tie.Need-loop-again Inv-loop μ-loop
 loop-again c =
     let l = c .before .before .before .before .before .loop in
-    let a = c .before .before .before .before .before .before .args in
+    let a = c .before .before .before .before .before .before .before .before .before .args in
     let i = l .i in
     let there : cell (l .xs) (l .ys) (l .zs) i ≡ cell (a .xs .now) (a .ys .now) (a .zs .now) i =
     (λ t. record { x = l .inv .7 i (search needs) t; y = l .inv .8 i (search needs) t; z = l .inv .9 i (search needs) t }) in
@@ -52,15 +53,14 @@ loop-again c =
       simp length-set (l .inv .1),
       simp length-set (l .inv .2),
       simp length-set (l .inv .3),
-      made (l .xs) i _ (λ j. applyF (a .m) (cell (a .xs .now) (a .ys .now) (a .zs .now) j) .x) (omega arith) (l .inv .4) (ap (λ p. p .x) e),
-      made (l .ys) i _ (λ j. applyF (a .m) (cell (a .xs .now) (a .ys .now) (a .zs .now) j) .y) (omega arith) (l .inv .5) (ap (λ p. p .y) e),
-      made (l .zs) i _ (λ j. applyF (a .m) (cell (a .xs .now) (a .ys .now) (a .zs .now) j) .z) (omega arith) (l .inv .6) (ap (λ p. p .z) e),
+      made (l .xs) i _ (λ j. applyF (a .m) (cell (a .xs .now) (a .ys .now) (a .zs .now) j) .x) (search needs) (l .inv .4) (ap (λ p. p .x) e),
+      made (l .ys) i _ (λ j. applyF (a .m) (cell (a .xs .now) (a .ys .now) (a .zs .now) j) .y) (search needs) (l .inv .5) (ap (λ p. p .y) e),
+      made (l .zs) i _ (λ j. applyF (a .m) (cell (a .xs .now) (a .ys .now) (a .zs .now) j) .z) (search needs) (l .inv .6) (ap (λ p. p .z) e),
       left (l .xs) i _ (a .xs .now) (l .inv .7),
       left (l .ys) i _ (a .ys .now) (l .inv .8),
       left (l .zs) i _ (a .zs .now) (l .inv .9),
     )
 
--- src/passes.rt:49:1
 returns : tie.Need-returns Inv-loop μ-loop
 returns c =
     let v = c .before .loop .inv in
@@ -76,4 +76,5 @@ apply-all-spec =
     (tie.spec Inv-loop μ-loop loop-holds (λ c. search needs) (λ c. search needs) (λ c. search needs)
     (λ c. search needs) (λ c. search needs) (λ c. search needs) (λ c κs. search needs) (λ c. search needs)
     (λ c. search needs) (λ c. search needs) (λ c. search needs) (λ c. search needs) (λ c. search needs)
-    (λ c. search needs) (λ c. search needs) loop-again returns)
+    (λ c. search needs) (λ c. search needs) loop-again (λ c. search needs) (λ c. search needs) (λ c. search needs)
+    returns)

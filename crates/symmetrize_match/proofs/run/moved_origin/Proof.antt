@@ -2,13 +2,12 @@
 use mathlib.Core.Path.{ap, _∙_}
 use Rattle.definitions.specs.Real.{applyF}
 use borrow.Author.Needs.{needs}
-use Rattle.symmetrize_match.proofs.outer.moved_origin.Statement.{statement}
-use Rattle.symmetrize_match.proofs.outer.moved_origin.Tie as tie
-use Rattle.symmetrize_match.proofs.outer.moved_origin.Reads as reads
-use Rattle.symmetrize_match.proofs.outer.moved_origin.Lts as lts
+use Rattle.symmetrize_match.proofs.run.moved_origin.Statement.{statement}
+use Rattle.symmetrize_match.proofs.run.moved_origin.Tie as tie
+use Rattle.symmetrize_match.proofs.run.moved_origin.Reads as reads
+use Rattle.symmetrize_match.proofs.run.moved_origin.Lts as lts
 use Rattle.math_real.proofs.position.apply.Reads as apply-reads
 
--- src/outer.rt:31:1
 returns : tie.Need-returns
 returns c = c .apply2 .ensures ∙ ap (applyF (c .before .before .args .matrix)) (c .before .apply .ensures)
 
