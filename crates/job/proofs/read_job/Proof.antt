@@ -45,7 +45,7 @@ returns-2 c =
 pub read-job-spec : {M : Type 1} → statement M
 read-job-spec =
     tie.close
-    (tie.spec (λ c κs. tt) (λ c. search needs) fill-requires (λ c. search needs) (λ c κs. tt)
+    (tie.spec (λ c κs. tt) (λ c. c .match .keys1) fill-requires (λ c. c .match .keys2) (λ c κs. tt)
     (λ c. c .before .before .before .before .before .before .before .before .before .before .before .before .before .before .fill .kept .1 .1 .1 .1 .1 .1 .0)
     (λ c. c .before .before .before .before .before .before .before .before .before .before .before .before .before .before .fill .kept .1 .1 .1 .1 .1 .1 .1 .0)
     (λ c. c .before .before .before .before .before .before .before .before .before .before .before .before .before .before .fill .kept .1 .1 .1 .1 .1 .1 .1 .1 .0)
