@@ -4,9 +4,11 @@ use mathlib.Core.Path.{_≡_, refl, sym, ap, _∙_}
 use mathlib.Core.Bool.{Bool, false}
 use mathlib.Core.List.{List, [], _∷_, _++_, map, append-assoc, List·Memᴰ, List·Memᴰ·head, List·Memᴰ·tail}
 use native.Mathlib.Omega.{arith}
-use native.Mathlib.Nat.{suc-mul}
+use native.Mathlib.Nat.{suc-mul, mul-le-mul}
 use lib.ListN.{length, take, replicate, length-append, length-map}
 use lib.Seq.{take-at, drop-at}
+use mir.Syntax.{w64}
+use mir.Val.{Fits}
 use Rattle.definitions.specs.Lists.{any, each, Each, upFrom}
 use Rattle.definitions.specs.Refusal.{padded}
 use Rattle.definitions.specs.Permutation.{permutationAt}
@@ -67,6 +69,13 @@ pub length-cells : (ps : List Position) → length (map cellsOf ps) ≡ length p
 length-cells ps = length-map ps cellsOf
 
 -- what there is room for, in a list that kept its length
+-- numbers of entries are words
+pub listed-word : (n m : ℕ) → n ≤ 256 → m ≤ 64 → Fits w64 (n * m)
+listed-word n m p q = omega (arith, mul-le-mul p q)
+
+pub entries-word : (n : ℕ) → n ≤ 24576 → Fits w64 n
+entries-word n p = omega arith
+
 pub fits-kept : {a b c d : ℕ} → a ≡ b → b ≤ c → d ≡ c → a ≤ d
 fits-kept {a} {b} {c} {d} e h k = omega arith
 

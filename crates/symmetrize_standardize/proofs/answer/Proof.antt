@@ -1,7 +1,6 @@
 -- `answer`: the verdict by the sub-calls' promises, and the promise of the whole by what `finish` left.
 use Prim.Native.Nat.{ℕ, _*_, _≤_}
 use mathlib.Core.Path.{_≡_, refl, sym, ap, subst, _∙_}
-use native.Mathlib.Omega.{arith}
 use mathlib.Core.List.{List}
 use lib.ListN.{length, replicate, length-replicate}
 use lib.Seq.{length-take-le}
@@ -14,10 +13,9 @@ use Rattle.math_matrix.proofs.Shape.{good-three}
 use Rattle.symmetrize_standardize.specs.Stages.{Told, leastRoom, wholeVerdict}
 use Rattle.symmetrize_standardize.proofs.General.{Until}
 use Rattle.symmetrize_standardize.proofs.Ladder.{conditions, Right, whole-until}
-use Rattle.symmetrize_standardize.proofs.Parts.{still-room}
+use Rattle.symmetrize_standardize.proofs.Parts.{entries-word, still-room}
 use Rattle.symmetrize_standardize.proofs.Past.{known-copies, known-sites, known-texts, known-images, known-roomy}
 use Rattle.symmetrize_standardize.proofs.Assembled.{right-of, refused-uncleared, answered}
-use borrow.Author.Needs.{needs}
 use Rattle.symmetrize_standardize.proofs.answer.Statement.{statement}
 use Rattle.symmetrize_standardize.proofs.answer.Tie as tie
 
@@ -187,7 +185,7 @@ in-rs c =
 mul-entries : tie.Need-mul-entries
 mul-entries c =
     let s = start (verdict c) in
-    omega (arith, known-images (given s) (roomsOf (lent s)) (passed c))
+    entries-word (length (s .args .target-rotations .now) * length (s .args .positions .now)) (known-images (given s) (roomsOf (lent s)) (passed c))
 
 array-share-prefix-aligned : tie.Need-array-share-prefix-aligned
 array-share-prefix-aligned c = in-aligned (c .before)
@@ -253,6 +251,15 @@ same-length-4 c = finished c .finish .kept .1 .1 .1 .1 .1 .1 .1 .1 .1 .1 .1 .1 .
 same-length-5 : tie.Need-same-length-5
 same-length-5 c = finished c .finish .kept .1 .1 .1 .1 .1 .1 .1 .1 .1 .1 .1 .1 .1 .1 .1 .1 .1 .1 .1 .1 .1 .0
 
+same-length-6 : tie.Need-same-length-6
+same-length-6 c = finished c .finish .kept .1 .1 .1 .1 .1 .1 .1 .1 .1 .1 .1 .1 .1 .1 .1 .1 .1 .1 .1 .1 .1 .1 .0
+
+same-length-7 : tie.Need-same-length-7
+same-length-7 c = finished c .finish .kept .1 .1 .1 .1 .1 .1 .1 .1 .1 .1 .1 .1 .1 .1 .1 .1 .1 .1 .1 .1 .1 .1 .1 .0
+
+same-length-8 : tie.Need-same-length-8
+same-length-8 c = finished c .finish .kept .1 .1 .1 .1 .1 .1 .1 .1 .1 .1 .1 .1 .1 .1 .1 .1 .1 .1 .1 .1 .1 .1 .1 .1 .0
+
 returns-2 : tie.Need-returns-2
 returns-2 c =
     let f = finished c in
@@ -283,8 +290,8 @@ returns-2 c =
 pub answer-spec : {M : Type 1} → statement M
 answer-spec =
     tie.close
-    (tie.spec (λ c. search needs) (λ c. search needs) (λ c. search needs) (λ c. search needs) (λ c. search needs) (λ c κs. search needs) (λ c. search needs) (λ c κs. search needs) (λ c κs. search needs) (λ c κs. search needs) (λ c κs. search needs) (λ c κs. search needs) (λ c. search needs) (λ c. search needs)
+    (tie.spec (λ c. refl) (λ c. refl) (λ c. refl) (λ c. refl) (λ c. refl) (λ c κs. tt) (λ c. refl) (λ c κs. tt) (λ c κs. tt) (λ c κs. tt) (λ c κs. tt) (λ c κs. tt) (λ c. c .match .keys1) (λ c. c .match .keys2)
     mul-entries array-share-prefix-aligned slice-aggregate-finish array-share-prefix-matrices slice-aggregate-finish-2
     array-share-prefix-shifts slice-aggregate-finish-3 array-share-prefix-ds slice-aggregate-finish-4 array-share-prefix-ls
     slice-aggregate-finish-5 array-share-prefix-rs slice-aggregate-finish-6 finish-requires returns same-length same-length-2
-    same-length-3 same-length-4 same-length-5 (λ c. search needs) (λ c. search needs) (λ c. search needs) returns-2)
+    same-length-3 same-length-4 same-length-5 same-length-6 same-length-7 same-length-8 returns-2)

@@ -1,14 +1,11 @@
 -- `finish`: the listed cell and its orbits, with the parts of the lists that hold the answer.
 use Prim.Native.Nat.{_*_, _≤_}
 use mathlib.Core.Path.{_≡_, refl, sym, ap, _∙_}
-use native.Mathlib.Omega.{arith}
-use native.Mathlib.Nat.{mul-le-mul}
 use lib.ListN.{length}
 use lib.Seq.{length-take-le}
 use Rattle.definitions.specs.Limits.{copies}
-use Rattle.symmetrize_standardize.proofs.Parts.{fits-kept}
+use Rattle.symmetrize_standardize.proofs.Parts.{listed-word, fits-kept}
 use Rattle.symmetrize_standardize.proofs.Assembled.{finished-by}
-use borrow.Author.Needs.{needs}
 use Rattle.symmetrize_standardize.proofs.finish.Statement.{statement}
 use Rattle.symmetrize_standardize.proofs.finish.Tie as tie
 
@@ -46,11 +43,15 @@ in-labels :
 in-labels c =
     fits-kept (listed-is (counted c)) (start (counted c) .pre .2 .labels) (lettered c .label-and-letter .kept .1 .1 .1 .1 .1 .1 .1 .1 .1 .1 .1 .1 .1 .1 .0)
 
+list-cell-requires : tie.Need-list-cell-requires
+list-cell-requires c κs =
+    let s = c .before .before .before .before .before .before .before .before .before .before .before .before in
+    (s .pre .0, s .pre .2 .primitive)
+
 mul-listed : tie.Need-mul-listed
 mul-listed c =
     let s = start c in
-    let few : c .copies .result ≤ 64 = fits-kept (c .copies .ensures) (s .pre .0) refl in
-    omega (arith, mul-le-mul (s .pre .1) few)
+    listed-word (length (s .args .positions .now)) (c .copies .result) (s .pre .1) (fits-kept (c .copies .ensures) (s .pre .0) refl)
 
 slice-reshare-prefix-label-and-letter : tie.Need-slice-reshare-prefix-label-and-letter
 slice-reshare-prefix-label-and-letter c = in-mapping c
@@ -76,17 +77,61 @@ slice-reshare-prefix-told c = in-labels c
 slice-aggregate-told : tie.Need-slice-aggregate-told
 slice-aggregate-told c = sym (length-take-le _ _ (in-labels (c .before)))
 
+-- neither call changes how long a list is
+abbrev lettered-at : tie.After-told → tie.After-label-and-letter
+lettered-at c = lettered (c .before .before)
+
+abbrev cell-at : tie.After-told → tie.After-list-cell
+cell-at c = cell (counted (c .before .before))
+
+same-length : tie.Need-same-length
+same-length c = cell-at c .list-cell .kept .1 .1 .1 .1 .1 .1 .1 .1 .1 .0
+
+same-length-2 : tie.Need-same-length-2
+same-length-2 c = cell-at c .list-cell .kept .1 .1 .1 .1 .1 .1 .1 .1 .1 .1 .0
+
+same-length-3 : tie.Need-same-length-3
+same-length-3 c = cell-at c .list-cell .kept .1 .1 .1 .1 .1 .1 .1 .1 .1 .1 .1 .0
+
+same-length-4 : tie.Need-same-length-4
+same-length-4 c = cell-at c .list-cell .kept .1 .1 .1 .1 .1 .1 .1 .1 .1 .1 .1 .1 .0
+
+same-length-5 : tie.Need-same-length-5
+same-length-5 c = lettered-at c .label-and-letter .kept .1 .1 .1 .1 .1 .1 .1 .1 .1 .1 .1 .1 .1 .1 .0
+
+same-length-6 : tie.Need-same-length-6
+same-length-6 c = lettered-at c .label-and-letter .kept .1 .1 .1 .1 .1 .1 .1 .1 .1 .1 .1 .1 .1 .1 .1 .0
+
+same-length-7 : tie.Need-same-length-7
+same-length-7 c = lettered-at c .label-and-letter .kept .1 .1 .1 .1 .1 .1 .1 .1 .1 .1 .1 .1 .1 .1 .1 .1 .0
+
+same-length-8 : tie.Need-same-length-8
+same-length-8 c = cell-at c .list-cell .kept .1 .1 .1 .1 .1 .1 .1 .1 .0
+
 returns : tie.Need-returns
 returns c =
-    let d = c .before .before in (
-      cell (counted d) .list-cell .ensures,
-      finished-by _ _ (listed-is (counted d)) _ _ _ _ _ _ _ _ _ _ _ _ (lettered d .label-and-letter .result) (c .told .result)
-          (lettered d .label-and-letter .ensures) (c .told .ensures),
+    let l = lettered-at c in
+    let d = counted (c .before .before) in
+    let z = cell d in
+    let a = start d .args in (
+      z .list-cell .ensures,
+      finished-by (length (a .positions .now) * d .copies .result) (length (a .positions .now) * copies (a .c)) (listed-is d)
+          (length (a .positions .now)) (length (a .target-rotations .now)) (a .aligned .now)
+          (z .list-cell .last .1 .1 .1 .1 .1 .1 .1 .1 .1 .1 .1 .0) (z .list-cell .last .1 .1 .1 .1 .1 .1 .1 .1 .1 .0) (a .basis) (a .symprec) (a .candidates .now) (a .candidate-letters .now)
+          (record { matrices = a .matrices .now; shifts = a .shifts .now; ds = a .ds .now; ls = a .ls .now; rs = a .rs .now })
+          (record { labels = a .labels .now; multiplicities = a .multiplicities .now; letters = a .letters .now })
+          (record {
+            labels = l .label-and-letter .last .1 .1 .1 .1 .1 .1 .1 .1 .1 .1 .1 .1 .1 .1 .0;
+            multiplicities = l .label-and-letter .last .1 .1 .1 .1 .1 .1 .1 .1 .1 .1 .1 .1 .1 .1 .1 .0;
+            letters = l .label-and-letter .last .1 .1 .1 .1 .1 .1 .1 .1 .1 .1 .1 .1 .1 .1 .1 .1 .0;
+          })
+          (l .label-and-letter .result) (c .told .result) (l .label-and-letter .ensures) (c .told .ensures),
     )
 
 pub finish-spec : {M : Type 1} → statement M
 finish-spec =
     tie.close
-    (tie.spec (λ c κs. search needs) (λ c κs. search needs) mul-listed slice-reshare-prefix-label-and-letter slice-aggregate-label-and-letter
+    (tie.spec list-cell-requires (λ c κs. tt) mul-listed slice-reshare-prefix-label-and-letter slice-aggregate-label-and-letter
     slice-reshare-prefix-label-and-letter-2 slice-aggregate-label-and-letter-2 label-and-letter-requires slice-reshare-prefix-told
-    slice-aggregate-told (λ c κs. search needs) (λ c. search needs) (λ c. search needs) (λ c. search needs) (λ c. search needs) (λ c. search needs) (λ c. search needs) (λ c. search needs) (λ c. search needs) returns)
+    slice-aggregate-told (λ c κs. tt) same-length same-length-2 same-length-3 same-length-4 same-length-5 same-length-6 same-length-7
+    same-length-8 returns)

@@ -2,7 +2,6 @@
 use mathlib.Core.Path.{_∙_}
 use Rattle.definitions.specs.WholeCalls.{Given, AnswerCells}
 use Rattle.symmetrize_standardize.proofs.Assembled.{cleared-from, promise-refused, promise-accepted}
-use borrow.Author.Needs.{needs}
 use Rattle.symmetrize_standardize.proofs.standardize.Statement.{statement}
 use Rattle.symmetrize_standardize.proofs.standardize.Tie as tie
 
@@ -65,9 +64,36 @@ left c =
       factors = c .answer .last .1 .1 .1 .1 .1 .1 .1 .1 .1 .1 .1 .1 .1 .1 .1 .1 .1 .1 .1 .1 .1 .1 .1 .1 .1 .1 .0;
     }
 
+abbrev accepted : tie.After-enum-told → tie.After-answer
+accepted c = c .before .before .before .before .before .before .before .before .before .before .before .before .before .before
+
+same-length : tie.Need-same-length
+same-length c = accepted c .answer .kept .1 .1 .1 .1 .1 .1 .1 .1 .1 .1 .1 .1 .1 .1 .1 .1 .0
+
+same-length-2 : tie.Need-same-length-2
+same-length-2 c = accepted c .answer .kept .1 .1 .1 .1 .1 .1 .1 .1 .1 .1 .1 .1 .1 .1 .1 .1 .1 .0
+
+same-length-3 : tie.Need-same-length-3
+same-length-3 c = accepted c .answer .kept .1 .1 .1 .1 .1 .1 .1 .1 .1 .1 .1 .1 .1 .1 .1 .1 .1 .1 .0
+
+same-length-4 : tie.Need-same-length-4
+same-length-4 c = accepted c .answer .kept .1 .1 .1 .1 .1 .1 .1 .1 .1 .1 .1 .1 .1 .1 .1 .1 .1 .1 .1 .0
+
+same-length-5 : tie.Need-same-length-5
+same-length-5 c = accepted c .answer .kept .1 .1 .1 .1 .1 .1 .1 .1 .1 .1 .1 .1 .1 .1 .1 .1 .1 .1 .1 .1 .0
+
+same-length-6 : tie.Need-same-length-6
+same-length-6 c = accepted c .answer .kept .1 .1 .1 .1 .1 .1 .1 .1 .1 .1 .1 .1 .1 .1 .1 .1 .1 .1 .1 .1 .1 .0
+
+same-length-7 : tie.Need-same-length-7
+same-length-7 c = accepted c .answer .kept .1 .1 .1 .1 .1 .1 .1 .1 .1 .1 .1 .1 .1 .1 .1 .1 .1 .1 .1 .1 .1 .1 .0
+
+same-length-8 : tie.Need-same-length-8
+same-length-8 c = accepted c .answer .kept .1 .1 .1 .1 .1 .1 .1 .1 .1 .1 .1 .1 .1 .1 .1 .1 .1 .1 .1 .1 .1 .1 .1 .0
+
 returns : tie.Need-returns
 returns c =
-    let a = c .before .before .before .before .before .before .before .before .before .before .before .before .before .before in
+    let a = accepted c in
     promise-accepted (given (start a)) (lent (start a)) (left a) (a .answer .result) _ _ (c .enum-told .given .1) (a .answer .ensures)
 
 -- ---- after a refusal
@@ -129,5 +155,6 @@ returns-2 c =
 pub standardize-spec : {M : Type 1} → statement M
 standardize-spec =
     tie.close
-    (tie.spec (λ c κs. search needs) (λ c. search needs) (λ c. search needs) (λ c κs. search needs) (λ c. search needs) (λ c. search needs) (λ c. search needs) (λ c. search needs) (λ c. search needs) (λ c. search needs) (λ c. search needs) (λ c. search needs) returns
+    (tie.spec (λ c κs. tt) (λ c. c .match .keys1) (λ c. c .match .keys2) (λ c κs. tt) same-length same-length-2 same-length-3 same-length-4 same-length-5
+    same-length-6 same-length-7 same-length-8 returns
     same-length-9 same-length-10 same-length-11 same-length-12 same-length-13 same-length-14 same-length-15 same-length-16 returns-2)
