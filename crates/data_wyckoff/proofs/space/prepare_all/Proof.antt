@@ -1,5 +1,5 @@
 -- `prepare_all`: the verdict is `judge`'s; accepted, the lists are cleared behind the spaces, refused, cleared whole.
-use borrow.Author.Needs.{needs}
+use mathlib.Core.Path.{_∙_}
 use Rattle.definitions.specs.SiteCalls.{SpaceCells}
 use Rattle.data_wyckoff.proofs.Promise.{keep-accepted, keep-refused}
 use Rattle.data_wyckoff.proofs.space.prepare_all.Statement.{statement}
@@ -59,6 +59,14 @@ returns-2 c =
 pub prepare-all-spec : {M : Type 1} → statement M
 prepare-all-spec =
     tie.close
-    (tie.spec (λ c κs. search needs) (λ c. search needs) (λ c κs. search needs) (λ c. search needs) (λ c κs. search needs)
-    (λ c. search needs) (λ c. search needs) (λ c. search needs) (λ c. search needs) (λ c. search needs) returns
-    (λ c. search needs) (λ c. search needs) (λ c. search needs) (λ c. search needs) (λ c. search needs) returns-2)
+    (tie.spec (λ c κs. tt) (λ c. c .match .keys1) (λ c κs. tt) (λ c. c .match .keys2) (λ c κs. tt)
+    (λ c. c .before .before .before .before .before .clear-spaces .kept .0 ∙ c .before .before .before .before .before .before .before .before .before .before .before .before .before .before .before .before .before .before .judge .kept .1 .0)
+    (λ c. c .before .before .before .before .before .clear-spaces .kept .1 .0 ∙ c .before .before .before .before .before .before .before .before .before .before .before .before .before .before .before .before .before .before .judge .kept .1 .1 .0)
+    (λ c. c .before .before .before .before .before .clear-spaces .kept .1 .1 .0 ∙ c .before .before .before .before .before .before .before .before .before .before .before .before .before .before .before .before .before .before .judge .kept .1 .1 .1 .0)
+    (λ c. c .before .before .before .before .before .clear-spaces .kept .1 .1 .1 .0 ∙ c .before .before .before .before .before .before .before .before .before .before .before .before .before .before .before .before .before .before .judge .kept .1 .1 .1 .1 .0)
+    (λ c. c .before .before .before .before .before .clear-spaces .kept .1 .1 .1 .1 .0 ∙ c .before .before .before .before .before .before .before .before .before .before .before .before .before .before .before .before .before .before .judge .kept .1 .1 .1 .1 .1 .0) returns
+    (λ c. c .before .before .before .before .before .clear-spaces2 .kept .0 ∙ c .before .before .before .before .before .before .before .before .before .before .before .before .before .before .before .before .before .before .judge .kept .1 .0)
+    (λ c. c .before .before .before .before .before .clear-spaces2 .kept .1 .0 ∙ c .before .before .before .before .before .before .before .before .before .before .before .before .before .before .before .before .before .before .judge .kept .1 .1 .0)
+    (λ c. c .before .before .before .before .before .clear-spaces2 .kept .1 .1 .0 ∙ c .before .before .before .before .before .before .before .before .before .before .before .before .before .before .before .before .before .before .judge .kept .1 .1 .1 .0)
+    (λ c. c .before .before .before .before .before .clear-spaces2 .kept .1 .1 .1 .0 ∙ c .before .before .before .before .before .before .before .before .before .before .before .before .before .before .before .before .before .before .judge .kept .1 .1 .1 .1 .0)
+    (λ c. c .before .before .before .before .before .clear-spaces2 .kept .1 .1 .1 .1 .0 ∙ c .before .before .before .before .before .before .before .before .before .before .before .before .before .before .before .before .before .before .judge .kept .1 .1 .1 .1 .1 .0) returns-2)

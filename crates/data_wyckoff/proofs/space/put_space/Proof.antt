@@ -1,5 +1,4 @@
 -- `put_space`: what `prepare` leaves stands at place i of each list.
-use borrow.Author.Needs.{needs}
 use Rattle.definitions.specs.SiteCalls.{SpaceCells}
 use Rattle.data_wyckoff.proofs.Listed.{put-one}
 use Rattle.data_wyckoff.proofs.space.put_space.Statement.{statement}
@@ -26,6 +25,9 @@ returns c =
 pub put-space-spec : {M : Type 1} → statement M
 put-space-spec =
     tie.close
-    (tie.spec (λ c κs. search needs) (λ c κs. search needs) (λ c κs. search needs) (λ c κs. search needs)
-    (λ c κs. search needs) (λ c κs. search needs) (λ c. search needs) (λ c. search needs) (λ c. search needs)
-    (λ c. search needs) (λ c. search needs) returns)
+    (tie.spec (λ c κs. tt) (λ c κs. tt) (λ c κs. tt) (λ c κs. tt) (λ c κs. tt) (λ c κs. tt)
+    (λ c. c .before .before .before .before .before .before .before .before .before .before .before .before .before .put-rotation .kept .0)
+    (λ c. c .before .before .before .before .before .before .before .before .before .before .put-cells .kept .0)
+    (λ c. c .before .before .before .before .before .before .before .put-snf .kept .0)
+    (λ c. c .before .before .before .before .put-snf2 .kept .0)
+    (λ c. c .before .put-snf3 .kept .0) returns)
