@@ -1,5 +1,5 @@
 -- `list_all`: the points are the front of the list that is held.
-use mathlib.Core.Path.{_≡_, sym, subst, _∙_}
+use mathlib.Core.Path.{_≡_, refl, sym, subst, _∙_}
 use mathlib.Core.List.{List}
 use native.Mathlib.Omega.{arith}
 use lib.IntN.{ℤ}
@@ -41,5 +41,9 @@ returns c =
 pub list-all-spec : {M : Type 1} → statement M
 list-all-spec =
     tie.close
-    (tie.spec (λ c. search needs) (λ c κs. search needs) (λ c κs. search needs) (λ c. search needs) (λ c. search needs)
-    part-list-copies-end (λ c κs. search needs) (λ c. search needs) (λ c. search needs) (λ c. search needs) (λ c. search needs) returns)
+    (tie.spec (λ c. refl) (λ c κs. search needs) (λ c κs. tt) (λ c. search needs) (λ c. search needs)
+    part-list-copies-end (λ c κs. tt)
+    (λ c. c .before .before .before .before .before .list-copies .kept .1 .1 .1 .1 .0)
+    (λ c. c .before .before .before .before .before .list-copies .kept .1 .1 .1 .1 .1 .0)
+    (λ c. c .before .before .before .before .before .list-copies .kept .1 .1 .1 .1 .1 .1 .0)
+    (λ c. c .before .before .before .before .before .list-copies .kept .1 .1 .1 .1 .1 .1 .1 .0) returns)

@@ -2,7 +2,6 @@
 use Prim.Native.Nat.{ℕ, _*_, _≤_}
 use mathlib.Core.Path.{sym, subst, _∙_}
 use lib.ListN.{length}
-use borrow.Author.Needs.{needs}
 use Rattle.definitions.specs.SiteCalls.{ListingCells}
 use Rattle.base_transformation.proofs.Listable.{Roomy, roomy}
 use Rattle.base_transformation.proofs.Listing.{copies-listed, nothing-listed}
@@ -76,6 +75,13 @@ returns-2 c =
 pub list-copies-spec : {M : Type 1} → statement M
 list-copies-spec =
     tie.close
-    (tie.spec (λ c κs. search needs) (λ c κs. search needs) list-positions-requires list-run-points-requires list-mapping-requires
-    list-elements-requires (λ c κs. search needs) (λ c. search needs) (λ c. search needs) (λ c. search needs) (λ c. search needs) returns
-    (λ c. search needs) (λ c. search needs) (λ c. search needs) (λ c. search needs) returns-2)
+    (tie.spec (λ c κs. tt) (λ c κs. tt) list-positions-requires list-run-points-requires list-mapping-requires
+    list-elements-requires (λ c κs. tt)
+    (λ c. c .before .before .before .before .before .before .before .before .before .before .before .list-positions .kept .1 .1 .1 .0)
+    (λ c. c .before .before .before .before .before .before .before .before .list-run-points .kept .1 .1 .0)
+    (λ c. c .before .before .before .before .before .list-mapping .kept .1 .1 .0)
+    (λ c. c .before .list-elements .kept .1 .1 .0) returns
+    (λ c. c .before .before .before .before .before .clear-listing .kept .0)
+    (λ c. c .before .before .before .before .before .clear-listing .kept .1 .0)
+    (λ c. c .before .before .before .before .before .clear-listing .kept .1 .1 .0)
+    (λ c. c .before .before .before .before .before .clear-listing .kept .1 .1 .1 .0) returns-2)

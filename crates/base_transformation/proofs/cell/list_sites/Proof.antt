@@ -1,7 +1,6 @@
 -- `list_sites`: the verdict is `list_verdict`'s, and the lists are listed or cleared.
 use mathlib.Core.Path.{sym, subst}
 use mir.Syntax.{w8}
-use borrow.Author.Needs.{needs}
 use Rattle.definitions.specs.SiteCalls.{ListingCells}
 use Rattle.math_matrix.proofs.Shape.{good-three}
 use Rattle.base_transformation.proofs.Listing.{listed-ready, keep-accepted, keep-refused}
@@ -66,6 +65,12 @@ returns-2 c =
 pub list-sites-spec : {M : Type 1} → statement M
 list-sites-spec =
     tie.close
-    (tie.spec (λ c κs. search needs) (λ c. search needs) list-all-requires (λ c. search needs) (λ c κs. search needs)
-    (λ c. search needs) (λ c. search needs) (λ c. search needs) (λ c. search needs) returns
-    (λ c. search needs) (λ c. search needs) (λ c. search needs) (λ c. search needs) returns-2)
+    (tie.spec (λ c κs. tt) (λ c. c .match .keys1) list-all-requires (λ c. c .match .keys2) (λ c κs. tt)
+    (λ c. c .before .before .before .before .before .list-all .kept .1 .1 .1 .1 .1 .0)
+    (λ c. c .before .before .before .before .before .list-all .kept .1 .1 .1 .1 .1 .1 .0)
+    (λ c. c .before .before .before .before .before .list-all .kept .1 .1 .1 .1 .1 .1 .1 .0)
+    (λ c. c .before .before .before .before .before .list-all .kept .1 .1 .1 .1 .1 .1 .1 .1 .0) returns
+    (λ c. c .before .before .before .before .before .clear-listing .kept .0)
+    (λ c. c .before .before .before .before .before .clear-listing .kept .1 .0)
+    (λ c. c .before .before .before .before .before .clear-listing .kept .1 .1 .0)
+    (λ c. c .before .before .before .before .before .clear-listing .kept .1 .1 .1 .0) returns-2)
