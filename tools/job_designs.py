@@ -108,7 +108,7 @@ READINGS = [
         dict(lattice=ZERO), dict(targets=[motion(MIRROR)]), dict(candidates=[candidate(1, "a", "")]),
         dict(candidates=[(9, 98, EIGHT)]), dict(operations=[]), dict(images=[0]), dict(operations=[STILL] * 2),
         dict(candidates=[]), dict(c=STARRED_EIGHT), dict(c=ZERO), dict(lattice=ZERO, targets=[motion(MIRROR)]),
-        dict(c=COPIES))],
+        dict(c=COPIES), dict(rotations=[entry(IDENTITY, 0, 32)]), dict(symprec=-0.0), dict(t=ZERO))],
     # 12: the old determinant, pivots however small, a deformation that is not finite
     *[job(lattice=diag(a, a, a), rotations=[IDENTITY, ZERO]) for a in (1.7e-108, 1e-108, 1e-110)],
     *[job(lattice=diag(a, a, a)) for a in (1.7e-108, 1e-108, 1e-110)],
@@ -308,6 +308,8 @@ FULL = [large(255, 96, 17, 86, 64), extended(large(255, 96, 95, 18, 34), candida
 LARGE = FULL + [extended(large(255, 96, 17, 86, 64), images=[0]), extended(large(256, 96, 1, 1, 2), images=[0]),
                 job(sites=[ORIGIN] * 2200), job(images=[7] * 32000), job(operations=[STILL] * 1900),
                 job(candidates=[GENERAL] * 950)]
+# the like in few bytes: counts over the limits
+OVER = [job(operations=[STILL] * 97, images=[0] * 97), job(sites=[ORIGIN] * 300)]
 # images that are commands' bytes
 COMMANDS = job(sites=spread(91), images=cycle(91), candidates=[candidate(91, "c", "x,y,z")])
 # lists that no 65,536 bytes hold: the candidates in front are never tried, so that without them the answer is the same

@@ -13,8 +13,8 @@ import os
 import subprocess
 import tempfile
 
-from job_designs import COMMANDS, FAULTS, FULL, GOOD, GRAMMAR, LARGE, LIMITS, LISTS_FAULTS, PAST, READINGS, UNTRIED
-from job_designs import WORKED, damaged, payloads
+from job_designs import COMMANDS, FAULTS, FULL, GOOD, GRAMMAR, LARGE, LIMITS, LISTS_FAULTS, OVER, PAST, READINGS
+from job_designs import UNTRIED, WORKED, damaged, payloads
 from jobs import Job, f64, i8, parts
 from records import case, listed_bytes, listed_elements, listed_long, listed_matrices, listed_numbers, listed_texts
 from records import listed_triples, number, pattern, shortened
@@ -198,7 +198,7 @@ def byte_cases(oracle):
         x = job_or_none(oracle, data)
         yield bytes_case(oracle, data, x)[1]
         yield read_case(oracle, data, x)[1]
-    for x in LARGE:
+    for x in LARGE + OVER:
         yield bytes_case(oracle, x.bytes(), x)[1]
         yield bytes_case(oracle, x.bytes()[:-1] + b"?", None)[1]
     yield bytes_case(oracle, FULL[0].bytes() + b"Z", None)[1]
@@ -208,9 +208,10 @@ def read_cases(oracle):
     x = made(GOOD)
     for spare in [[40] * 11, [-9] * 11] + [[-1 if k == i else k % 3 for k in range(11)] for i in range(11)]:
         yield read_case(oracle, x.bytes(), x, spare)[1]
-    for x in WORKED[:5] + LIMITS[:-5] + [LIMITS[-1], COMMANDS, FULL[0]]:
+    for x in WORKED[:5] + LIMITS[:-5] + [*OVER, COMMANDS, FULL[0]]:
         yield read_case(oracle, x.bytes(), x)[1]
-    yield read_case(oracle, FULL[0].bytes() + b"Z", None)[1]
+    for data in [FULL[0].bytes() + b"Z"] + [x.bytes()[:-1] + b"?" for x in OVER]:
+        yield read_case(oracle, data, None)[1]
 
 
 def past_cases(oracle):

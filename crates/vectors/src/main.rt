@@ -1,10 +1,11 @@
 // Runs the records of standard input, one call each, and prints a line for each: the tag, what the call said, and every
-// lent cell, after a refusal too. No lent cell is zero before the call. Behind what J said stands the report that is made
-// of it, its bytes in hexadecimal digits.
+// lent cell, after a refusal too. No lent cell is zero before the call. J, j and b print lent matrices and the like
+// before the lists; J also the report that `put_report` makes of it, its bytes in hexadecimal digits.
 //
-// A record is a tag and the call's arguments. A float is its pattern, eight bytes; a size is eight bytes too; a matrix is
-// nine signed bytes, a basis nine floats, row by row; a position is three floats; an element is four bytes, a text 64; a
-// number is two bytes; a list is a number and as many entries; a room is a number, of the cells that are lent.
+// A record is a tag and the call's arguments. A float is its pattern, eight bytes; a size is eight bytes too; a matrix
+// is nine signed bytes, a basis nine floats, row by row; a position is three floats; an element is four bytes, a text
+// 64; a number is two bytes; a list is a number and as many entries, a long list a size and as many bytes; a room is a
+// number, of the cells that are lent.
 //
 //   tag  call                                     arguments
 //   r    math_round::round                        float
@@ -35,13 +36,13 @@
 //   w    symmetrize_wyckoff::letter_sites         as o without the rooms; list of positions; basis; of candidates lists
 //                                                 of numbers, of bytes and of texts; float symprec; rooms of labels,
 //                                                 multiplicities and letters
-//   J    job_standardize::standardize_bytes       a size, as many bytes; rooms of positions, points, mapping, elements,
+//   J    job_standardize::standardize_bytes       long list of bytes; rooms of positions, points, mapping, elements,
 //                                                 labels, multiplicities, letters and primitive positions
-//   j    symmetrize_standardize::standardize      basis; matrix T; the shift, three floats; matrix C; lists of elements,
-//                                                 of positions, of rotations and of translations; a size, as many
-//                                                 images, bytes; of targets lists of rotations and of translations; list
-//                                                 of conventional rotations; candidates and symprec as in w; rooms as in J
-//   b    job::read_job                            a size, as many bytes; rooms of the lists of j in that order
+//   j    symmetrize_standardize::standardize      basis; matrix T; the shift, three floats; matrix C; lists of elements
+//                                                 and of positions; of operations lists of rotations and of
+//                                                 translations; long list of images; of targets as of operations;
+//                                                 list of matrices; candidates and symprec as in w; rooms as in J
+//   b    job::read_job                            long list of bytes; rooms of the lists of j
 mod align;
 mod cell;
 mod centering;
