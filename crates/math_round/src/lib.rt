@@ -25,8 +25,8 @@ fn nearest_part(digits: u64, field: u64) -> u64
     (halves + 1) / 2
 }
 
-// A whole number as a float, with a sign: also -0. The sign's bit is added, as a processor guesses wrong at every second
-// sign; and through an i64, which it converts in one step.
+// A whole number as a float, with a sign: also -0. The sign's bit is added, as a processor guesses wrong at every
+// second sign; and through an i64, which it converts in one step.
 fn signed_whole(n: u64, sign: u64) -> f64
     requires { ⌜ (n ≤ 2 ^ 53) × (sign < 2) ⌝ }
     ensures { λ r. ⌜ r ≡ Ieee.round binary64 (eqb sign 1) n 1 ⌝ }
