@@ -18,7 +18,7 @@ use Rattle.definitions.specs.WholeCalls.{Given, jobFrom, unlikeLists, listsCond
 use Rattle.definitions.specs.WholeCalls.{nothingAnswered, toldWhole, ListsPromise, BytesPromise, givenOf}
 use Rattle.laws.specs.Order.{none-over, later-applies, applies-later}
 use Rattle.laws.specs.Tests.{not-so}
-use Rattle.symmetrize_standardize.specs.Whole.{job-to-bytes, bytes-to-job}
+use Rattle.symmetrize_standardize_laws.specs.Whole.{job-to-bytes, bytes-to-job}
 use Rattle.job_standardize.specs.Given.{job-given, like-lists}
 
 module _ (bs : List ℕ) (p : Parts) (i : IsJob bs p) (is-job : NoJob bs → ⊥) (rooms : Rooms) where

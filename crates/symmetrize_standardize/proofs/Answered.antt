@@ -31,7 +31,7 @@ use Rattle.base_cell.proofs.Tables.{length-multiplicities}
 use Rattle.base_transformation.specs.Listed.{positions-count as listed-count}
 use Rattle.symmetrize_wyckoff.specs.Unique.{equal-sites}
 use Rattle.symmetrize_wyckoff.specs.Unfit.{lettered-or-unfit}
-use Rattle.symmetrize_standardize.specs.Same.{same-design}
+use Rattle.symmetrize_standardize_laws.specs.Same.{same-design}
 use Rattle.symmetrize_standardize.proofs.Facts.{of-texts}
 use Rattle.symmetrize_standardize.proofs.Ladder.{conditions}
 use Rattle.symmetrize_standardize.proofs.Together.{length-spaces}

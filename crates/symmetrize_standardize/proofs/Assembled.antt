@@ -34,7 +34,7 @@ use Rattle.math_matrix.specs.Laws.{Three}
 use Rattle.math_snf_laws.specs.Unique.{run-unique}
 use Rattle.base_cell.proofs.Tables.{length-multiplicities}
 use Rattle.base_transformation.specs.Listed.{positions-count as listed-count}
-use Rattle.symmetrize_standardize.specs.Found.{positions-count}
+use Rattle.symmetrize_standardize_laws.specs.Found.{positions-count}
 use Rattle.symmetrize_standardize.specs.Stages.{CellListed, assigning, labelCells, OrbitsLettered, toldBy, Finished, Uncleared}
 use Rattle.symmetrize_standardize.proofs.General.{promised-checked, promised-answer}
 use Rattle.symmetrize_standardize.proofs.Facts.{of-elements}

@@ -27,7 +27,7 @@ use Rattle.laws.specs.Lists.{all-head, all-tail, all-cons, none-head, none-tail
 use Rattle.laws.specs.Limits.{few-entries}
 use Rattle.laws.specs.Order.{numbered}
 use Rattle.laws.specs.Verdicts.{Passed, found-none, accept, verdictOf}
-use Rattle.symmetrize_standardize.specs.Found.{aligned-all, mapping-pass}
+use Rattle.symmetrize_standardize_laws.specs.Found.{aligned-all, mapping-pass}
 use Rattle.symmetrize_standardize.specs.Stages.{Roomy}
 use Rattle.symmetrize_standardize.proofs.General.{told-accepted}
 use Rattle.symmetrize_standardize.proofs.Parts.{none-pass}

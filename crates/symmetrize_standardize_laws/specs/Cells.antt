@@ -16,8 +16,8 @@ use Rattle.definitions.specs.Standardize.{Answer, Work, letteringOf, answerOf, 
 use Rattle.definitions.specs.WholeCalls.{AnswerCells, HoldsAnswer, nothingAnswered, toldWhole, WholePromised, WholeAnswered}
 use Rattle.definitions.specs.WholeCalls.{ListsPromise, BytesPromise}
 use Rattle.definitions.specs.Demand.{Copies, listed, WholeCall, DemandOfWhole}
-use Rattle.symmetrize_standardize.specs.Calls.{BytesArguments, bytesCall, ListsArguments, listsCall}
-use Rattle.symmetrize_standardize.specs.Whole.{whole-lists, whole-bytes}
+use Rattle.symmetrize_standardize_laws.specs.Calls.{BytesArguments, bytesCall, ListsArguments, listsCall}
+use Rattle.symmetrize_standardize_laws.specs.Whole.{whole-lists, whole-bytes}
 
 -- The job j, what is told of it, and the lent cells before and after.
 pub record Answered (j : Job) (entry exit : AnswerCells) (told : Standardized) : Type 0 where

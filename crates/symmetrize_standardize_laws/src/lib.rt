@@ -1,0 +1,1 @@
+// Theorems on the promise of the whole call; they stand in specs/.
