@@ -21,7 +21,7 @@ use Rattle.definitions.specs.SiteCalls.{CopiesListed, listConditions, IsListing
 use Rattle.laws.specs.Verdicts.{promise-accepted, promise-refused}
 use Rattle.math_matrix.specs.Laws.{Three}
 use Rattle.base_transformation.specs.Answers.{pointsOf, Ended, Ready}
-use Rattle.base_transformation.specs.Covered.{run-points-count}
+use Rattle.base_transformation_laws.specs.Covered.{run-points-count}
 use Rattle.base_transformation.specs.Runs.{runCells}
 use Rattle.base_transformation.specs.Copied.{list-facts}
 use Rattle.base_transformation.proofs.Points.{run-points}

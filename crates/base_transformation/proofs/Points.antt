@@ -10,7 +10,7 @@ use Rattle.definitions.specs.Refusal.{padded}
 use Rattle.definitions.specs.Matrix.{Matrix, at, apply, inverse}
 use Rattle.definitions.specs.Snf.{State, box, points}
 use Rattle.laws.specs.Lists.{map-at}
-use Rattle.base_transformation.specs.Box.{length-box, box-at, positive}
+use Rattle.base_transformation_laws.specs.Box.{length-box, box-at, positive}
 use Rattle.definitions.specs.Lent.{zeroPoint}
 use Rattle.definitions.specs.Calls.{PointsLent}
 use Rattle.base_transformation.specs.Answers.{pointsOf, Ended, Ready}

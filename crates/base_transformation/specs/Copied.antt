@@ -26,7 +26,7 @@ use Rattle.laws.specs.Lists.{map-at, length-each, each-at, place-below}
 use Rattle.laws.specs.Order.{numbered, FailAll, past}
 use Rattle.laws.specs.Tests.{off, neither-left, neither-right}
 use Rattle.math_matrix.specs.Laws.{Three}
-use Rattle.base_transformation.specs.Listed.{listing-copies}
+use Rattle.base_transformation_laws.specs.Listed.{listing-copies}
 
 -- the conditions that an accepted call is past
 pub record ListFacts (c : Matrix) (es : List ℤ) (ps : List (List Float)) (rooms : List ℕ) : Type 0 where

@@ -19,7 +19,7 @@ use Rattle.definitions.specs.Demand.{ExactlyOne, DifferByWhole, Covers}
 use Rattle.definitions.specs.Limits.{copies}
 use Rattle.math_matrix.specs.Laws.{Three}
 use Rattle.definitions.specs.Lent.{zeroPoint}
-use Rattle.base_transformation.specs.Covered.{run-points-count, run-point-covers, run-covers}
+use Rattle.base_transformation_laws.specs.Covered.{run-points-count, run-point-covers, run-covers}
 use Rattle.laws.specs.Order.{numbered, FailAll, past}
 use Rattle.laws.specs.Tests.{off, neither-left, neither-right}
 use Rattle.laws.specs.Filling.{length-padded}

@@ -1,10 +1,4 @@
-pub mod Residues
-pub mod Box
-pub mod Smith
-pub mod Points
-pub mod Covered
 pub mod Answers
 pub mod Lent
-pub mod Listed
 pub mod Runs
 pub mod Copied

@@ -20,7 +20,7 @@ use Rattle.definitions.specs.Standardize.{TextLeaves}
 use Rattle.laws.specs.Order.{numbered, FailAll, past, applies-later, applies-last}
 use Rattle.laws.specs.Tests.{passed}
 use Rattle.laws.specs.Verdicts.{HoldsAt, Passed, found-at, found-none, refuse, accept, verdictOf}
-use Rattle.data_wyckoff.specs.Reading.{read-unique}
+use Rattle.data_wyckoff_laws.specs.Reading.{read-unique}
 use Rattle.data_wyckoff.specs.Spaces.{Diagonalised}
 
 clash : (b : Bool) → T b → T (not b) → ⊥

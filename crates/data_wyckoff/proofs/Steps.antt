@@ -22,8 +22,8 @@ use Rattle.math_matrix.specs.Bounds.{abs-add, abs-neg, fits-abs, back}
 use Rattle.laws.specs.Lists.{three-cons}
 use Rattle.data_wyckoff.specs.declared.Row.{Row}
 use Rattle.data_wyckoff.specs.Terms.{entriesOf}
-use Rattle.data_wyckoff.specs.Reader.{Token, printToken, token, token-digit}
-use Rattle.data_wyckoff.specs.Sound.{isToken, token-sound}
+use Rattle.data_wyckoff_laws.specs.Reader.{Token, printToken, token, token-digit}
+use Rattle.data_wyckoff_laws.specs.Sound.{isToken, token-sound}
 use Rattle.data_wyckoff.specs.declared.Last.{Last}
 use Rattle.data_wyckoff.specs.declared.Last.the-variants.{Nothing, Sign, Digit, Slash, Ended, Outside}
 use Rattle.data_wyckoff.specs.declared.Partial.{Partial}

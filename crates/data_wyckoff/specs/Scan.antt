@@ -10,7 +10,7 @@ use lib.ListN.{length, getD, drop}
 use lib.Ieee.{Float, binary64, add, div}
 use Rattle.definitions.specs.Real.{zeroF, realOf}
 use Rattle.definitions.specs.Coordinates.{Axis}
-use Rattle.data_wyckoff.specs.Reader.{Token, token}
+use Rattle.data_wyckoff_laws.specs.Reader.{Token, token}
 use Rattle.data_wyckoff.specs.declared.Last.{Last}
 use Rattle.data_wyckoff.specs.declared.Last.the-variants.{Nothing, Sign, Digit, Slash, Ended, Outside}
 use Rattle.data_wyckoff.specs.declared.Partial.{Partial}

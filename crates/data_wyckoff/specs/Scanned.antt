@@ -11,8 +11,8 @@ use lib.Ieee.{Float, binary64, add, div}
 use borrow.Author.Tests.{lt-ltb, ne-eqb}
 use Rattle.definitions.specs.Real.{zeroF, realOf}
 use Rattle.definitions.specs.Coordinates.{Axis, Item, Signed, Term, items, isAxis, coefficientIn, signedBy, sumZ, coefficient, addConstant, constant}
-use Rattle.data_wyckoff.specs.Reader.{Token, Lead, State, printToken, token, close, onToken, on, step}
-use Rattle.data_wyckoff.specs.Sound.{token-sound}
+use Rattle.data_wyckoff_laws.specs.Reader.{Token, Lead, State, printToken, token, close, onToken, on, step}
+use Rattle.data_wyckoff_laws.specs.Sound.{token-sound}
 use Rattle.data_wyckoff.specs.declared.Last.{Last}
 use Rattle.data_wyckoff.specs.declared.Last.the-variants.{Nothing, Sign, Digit, Slash, Ended}
 use Rattle.data_wyckoff.specs.declared.Partial.{Partial}

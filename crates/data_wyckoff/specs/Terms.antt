@@ -17,8 +17,8 @@ use Rattle.definitions.specs.Matrix.{Matrix}
 use Rattle.definitions.specs.Coordinates.{Axis, Item, Term, Triplet, coefficient, termRow, rows, constant, originOf, inRange, spaceless, Reads, Readable}
 use Rattle.definitions.specs.Lent.{cellsOf}
 use Rattle.laws.specs.Lists.{three-cons}
-use Rattle.data_wyckoff.specs.Reader.{Token, Lead, State, token, close, atEnd, onToken, on, step, triplet, finish, parse}
-use Rattle.data_wyckoff.specs.Reading.{parse-reads, unreadable-none, unreadable-range}
+use Rattle.data_wyckoff_laws.specs.Reader.{Token, Lead, State, token, close, atEnd, onToken, on, step, triplet, finish, parse}
+use Rattle.data_wyckoff_laws.specs.Reading.{parse-reads, unreadable-none, unreadable-range}
 use Rattle.data_wyckoff.specs.declared.Last.the-variants.{Digit, Ended}
 use Rattle.data_wyckoff.specs.declared.Row.{Row}
 use Rattle.data_wyckoff.specs.Scan.{stepOf, small, kept, noRow, rowOf, endOf, termFrom, termAt}

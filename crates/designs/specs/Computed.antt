@@ -14,10 +14,10 @@ use Rattle.definitions.specs.Cell.{reduced, listedPositions, listedPoints, site
 use Rattle.definitions.specs.Orbit.{multiplicities, orbit, orbits}
 use Rattle.definitions.specs.Coordinates.{isTriplet, print, rows, originOf, inRange}
 use Rattle.definitions.specs.Wyckoff.{offsets, residual, distance, fitsAt, matchFrom, matchOf, fits125, AreSpaces, choices, positionFits, candidateFor, siteFits, siteFitsAny, orbitFits, letterOf, orbitWithoutFit, letters}
-use Rattle.data_wyckoff.specs.Reader.{tokens, token, step, parse}
+use Rattle.data_wyckoff_laws.specs.Reader.{tokens, token, step, parse}
 use Rattle.base_cell.specs.Classes.{replaced, merge, along, alongAll, classes}
 use Rattle.base_cell.specs.Labels.{place, places as placesOf, labelsBy}
-use Rattle.job.specs.Decode.{decode}
+use Rattle.job_laws.specs.Decode.{decode}
 
 unfoldable pub computed : Unit {0}
 unfolding ofBits toBits round size odd ofFields add sum mul div rem lt le eq neg sub units span climb ofInt trailingZeros any all firstOf those count upFrom each Some precedence Applies NoneOf upto Returns roundAway rootCut rootPattern rootOfFields sqrt cholesky jobOf isPermutation inverseImage operationFor rotationAbsent alignedTo transformed displacements symmetrizedAt symmetrized primitivePositions latticeFails symmetrizedBasis primitiveBasis listedBasis places lesser least moved signed clearRow clearColumn cleared box points stage run reduced listedPositions listedPoints siteMapping listedElements multiplicities orbit orbits isTriplet print rows originOf inRange offsets residual distance fitsAt matchFrom matchOf fits125 AreSpaces choices positionFits candidateFor siteFits siteFitsAny orbitFits letterOf orbitWithoutFit letters tokens token step parse replaced merge along alongAll classes place placesOf labelsBy decode

@@ -32,12 +32,12 @@ use Rattle.definitions.specs.Orbit.{Labels}
 use Rattle.definitions.specs.Wyckoff.{Space, IsSpace, matchOf, textsOf, AreSpaces, Lettering, Found, sitesOf, orbitWithoutFit}
 use Rattle.definitions.specs.Standardize.{siteCount, listedCount, badCounts, badEntry, badFloat, badImage, badDeterminant, TextLeaves, Rooms, tooShort, letteringOf, Work, NoFit, Rule, rules, bytesRules, jobConditions, OfParts, bytesConditions, Answer, answerOf, BytesReturn}
 use Rattle.definitions.specs.Limits.{small, copies, most-bytes, tooManyListed}
-use Rattle.data_wyckoff.specs.Reader.{parse}
-use Rattle.data_wyckoff.specs.Reading.{read-unique, parse-reads, parse-none}
+use Rattle.data_wyckoff_laws.specs.Reader.{parse}
+use Rattle.data_wyckoff_laws.specs.Reading.{read-unique, parse-reads, parse-none}
 use Rattle.base_cell.specs.Classes.{classes}
 use Rattle.base_cell.specs.Labels.{labelsBy, labels-computed}
-use Rattle.symmetrize_wyckoff.specs.Unique.{sites-unique}
-use Rattle.job.specs.Decode.{decode, decode-sound, not-a-job, job-unique}
+use Rattle.symmetrize_wyckoff_laws.specs.Unique.{sites-unique}
+use Rattle.job_laws.specs.Decode.{decode, decode-sound, not-a-job, job-unique}
 use Rattle.designs.specs.Computed.{computed}
 use Rattle.laws.specs.Verdicts.{Tested, holds, fails, untested, either, TestedAll, Found as Verdict, clear, first, unknown, scan}
 

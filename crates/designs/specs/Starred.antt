@@ -25,7 +25,7 @@ use Rattle.definitions.specs.Coordinates.{Triplet, x, axis, times, whole, fract
 use Rattle.definitions.specs.Job.{float}
 use Rattle.definitions.specs.Calls.{inverseConditions, pointsConditions}
 use Rattle.definitions.specs.SiteCalls.{textConditions}
-use Rattle.data_wyckoff.specs.Reading.{unreadable-none}
+use Rattle.data_wyckoff_laws.specs.Reading.{unreadable-none}
 use Rattle.base_cell.specs.Labels.{labels-computed}
 use Rattle.laws.specs.Verdicts.{holds, fails, verdictOf, checked, refused-with}
 use Rattle.designs.specs.Computed.{computed}

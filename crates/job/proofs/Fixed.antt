@@ -12,8 +12,8 @@ use lib.Seq.{drop-cons}
 use lib.Dec.{leb}
 use borrow.Author.Tests.{leb-true, leb-false}
 use Rattle.definitions.specs.Limits.{text-bytes}
-use Rattle.job.specs.Reader.{Reader, mapped, _then_, mapped-forth, then-forth, place, number, integer, fromComplement, times}
-use Rattle.job.specs.Decode.{readFloats, readEntries, readSite, readOperation, readCandidate}
+use Rattle.job_laws.specs.Reader.{Reader, mapped, _then_, mapped-forth, then-forth, place, number, integer, fromComplement, times}
+use Rattle.job_laws.specs.Decode.{readFloats, readEntries, readSite, readOperation, readCandidate}
 use Rattle.job.specs.Places.{wordAt, integerAt, items, floatsAt, entriesAt, siteAt, operationAt, candidateAt}
 
 -- the reader r takes w bytes and makes of them what f says

@@ -8,7 +8,7 @@ use lib.Pow.{areBytes}
 use Rattle.definitions.specs.declared.JobCounts.{JobCounts}
 use Rattle.definitions.specs.Limits.{most-bytes}
 use Rattle.definitions.specs.Job.{NoJob}
-use Rattle.job.specs.Decode.{decode-sound, job-decodes}
+use Rattle.job_laws.specs.Decode.{decode-sound, job-decodes}
 use Rattle.job.specs.Places.{partsAt, Layout, Opens, Closes, symprecFrom}
 use Rattle.job.specs.Counted.{JobOf}
 use Rattle.job.proofs.Whole.{job-reads, job-opens, job-closes}

@@ -15,7 +15,7 @@ use Rattle.definitions.specs.Lent.{cellsOf}
 use Rattle.definitions.specs.WholeCalls.{Given, givenOf, HoldsGiven, nothingGiven, tooShortFor, readConditions, countsOf, ReadPromise}
 use Rattle.laws.specs.Tests.{so, not-so}
 use Rattle.laws.specs.Verdicts.{HoldsAt, Passed, found-at, found-none, refuse, accept, verdictOf, accepted-with, refused-with}
-use Rattle.job.specs.Decode.{job-unique}
+use Rattle.job_laws.specs.Decode.{job-unique}
 use Rattle.job.specs.Places.{items, run, partsAt, wordAt, integerAt, floatsAt, entriesAt, textAt, latticeAt, cellsFrom, matrixFrom, siteAt, operationAt, candidateAt, sitesFrom, operationsFrom, imagesFrom, targetsFrom, rotationsFrom, candidatesFrom, symprecFrom}
 use Rattle.job.specs.Counted.{JobOf}
 use Rattle.job.specs.Given.{givenAt, roomsOf, short, Settled}

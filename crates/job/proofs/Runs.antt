@@ -11,7 +11,7 @@ use lib.Dec.{T, eqb}
 use borrow.Author.Tests.{eq-eqb, ne-eqb, eqb-true, eqb-false}
 use Rattle.laws.specs.Order.{among}
 use Rattle.definitions.specs.Lists.{any}
-use Rattle.job.specs.Reader.{Reader, _then_, mapped-forth, mapped-back, then-forth, then-back, same-read, next, behind, atMost}
+use Rattle.job_laws.specs.Reader.{Reader, _then_, mapped-forth, mapped-back, then-forth, then-back, same-read, next, behind, atMost}
 use Rattle.job.specs.Places.{items, run, Run}
 use Rattle.job.proofs.Fixed.{Fixed, within, byte-at, mapped-none, then-none}
 

@@ -9,8 +9,8 @@ use lib.IntN.{ℤ}
 use Rattle.definitions.specs.declared.JobCounts.{JobCounts}
 use Rattle.definitions.specs.Lists.{any}
 use Rattle.definitions.specs.Job.{Parts, SitePart, OperationPart}
-use Rattle.job.specs.Reader.{Reader, mapped, _then_, mapped-forth, mapped-back, then-forth, then-back, behind, many, number, alone, closed}
-use Rattle.job.specs.Decode.{Opening, Body, readLattice, readTransformation, readCentring, readOpening, readSites, readOperation, readEntries, readCandidate, readFloats, readBody, readParts, toParts, ending, ending-is, decode}
+use Rattle.job_laws.specs.Reader.{Reader, mapped, _then_, mapped-forth, mapped-back, then-forth, then-back, behind, many, number, alone, closed}
+use Rattle.job_laws.specs.Decode.{Opening, Body, readLattice, readTransformation, readCentring, readOpening, readSites, readOperation, readEntries, readCandidate, readFloats, readBody, readParts, toParts, ending, ending-is, decode}
 use Rattle.job.specs.Places.{partsAt, run, Run, Layout, Opens, Closes, entriesAt, floatsAt, sitesFrom, operationsFrom, imagesFrom, targetsFrom, rotationsFrom, candidatesFrom, symprecFrom}
 use Rattle.job.proofs.Fixed.{Fixed, fixed-number, fixed-floats, fixed-entries, fixed-then, fixed-site, fixed-operation, fixed-candidate, fixed-nothing}
 use Rattle.job.proofs.Runs.{command-forth, command-back, run-forth, run-back, Leads, leads-run, leads-away}

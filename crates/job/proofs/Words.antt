@@ -9,7 +9,7 @@ use lib.Dec.{lit<}
 use Rattle.definitions.specs.Job.{float, positionOf}
 use Rattle.definitions.specs.Lent.{cellsOf}
 use Rattle.laws.specs.Lists.{three-cons}
-use Rattle.job.specs.Reader.{fromComplement}
+use Rattle.job_laws.specs.Reader.{fromComplement}
 use Rattle.job.specs.Places.{wordAt, integerAt, floatsAt, entriesAt, latticeAt}
 use Rattle.job.specs.Words.{word2, word4, word8, signedAt, floatAt}
 use Rattle.job.proofs.Items.{items-at}

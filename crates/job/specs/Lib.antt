@@ -1,7 +1,4 @@
--- The bytes of a job have at most one reading, and a reader finds it.
-pub mod Reader
-pub mod Decode
-pub mod Worked
+-- The bytes of a job: where each part stands, and what is read there.
 pub mod Places
 pub mod Words
 pub mod Counted

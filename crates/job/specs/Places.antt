@@ -11,7 +11,7 @@ use Rattle.definitions.specs.Real.{RealMatrix}
 use Rattle.definitions.specs.Job.{float, positionOf, rowsOf, Parts, SitePart, OperationPart, CandidatePart}
 use Rattle.definitions.specs.Limits.{text-bytes}
 use Rattle.definitions.specs.Lent.{cellsOf}
-use Rattle.job.specs.Reader.{place, fromComplement}
+use Rattle.job_laws.specs.Reader.{place, fromComplement}
 
 -- ---- operands
 

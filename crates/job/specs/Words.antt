@@ -5,7 +5,7 @@ use lib.ListN.{getD}
 use lib.IntN.{ℤ}
 use lib.Ieee.{Float}
 use Rattle.definitions.specs.Job.{float}
-use Rattle.job.specs.Reader.{place, fromComplement}
+use Rattle.job_laws.specs.Reader.{place, fromComplement}
 
 abbrev pub word2 : List ℕ → ℕ → ℕ
 word2 bs at = place (getD bs at 0) (getD bs (at + 1) 0)

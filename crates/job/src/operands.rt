@@ -9,7 +9,7 @@ ghost use mathlib.Core.Path.{_≡_};
 ghost use mathlib.Core.List.{[], _∷_};
 ghost use lib.ListN.{length};
 ghost use lib.Ieee.{binary64, ofBits};
-ghost use Rattle.job.specs.Reader.{fromComplement};
+ghost use Rattle.job_laws.specs.Reader.{fromComplement};
 ghost use Rattle.job.specs.Places.{integerAt, textAt, latticeAt, cellsFrom, matrixFrom};
 ghost use Rattle.job.specs.Words.{word2, word4, word8, signedAt, floatAt};
 

@@ -28,8 +28,8 @@ use Rattle.laws.specs.Counting.{all-of}
 use Rattle.laws.specs.Verdicts.{HoldsAt, Passed, pass, found-at, found-none, refuse, accept, verdictOf}
 use Rattle.math_matrix.specs.Laws.{Three}
 use Rattle.base_cell.proofs.Tables.{length-multiplicities}
-use Rattle.base_transformation.specs.Listed.{positions-count as listed-count}
-use Rattle.symmetrize_wyckoff.specs.Unique.{equal-sites}
+use Rattle.base_transformation_laws.specs.Listed.{positions-count as listed-count}
+use Rattle.symmetrize_wyckoff_laws.specs.Unique.{equal-sites}
 use Rattle.symmetrize_wyckoff.specs.Unfit.{lettered-or-unfit}
 use Rattle.symmetrize_standardize_laws.specs.Same.{same-design}
 use Rattle.symmetrize_standardize.proofs.Facts.{of-texts}

@@ -33,7 +33,7 @@ use Rattle.laws.specs.Verdicts.{Passed, refused-with, accepted-with}
 use Rattle.math_matrix.specs.Laws.{Three}
 use Rattle.math_snf_laws.specs.Unique.{run-unique}
 use Rattle.base_cell.proofs.Tables.{length-multiplicities}
-use Rattle.base_transformation.specs.Listed.{positions-count as listed-count}
+use Rattle.base_transformation_laws.specs.Listed.{positions-count as listed-count}
 use Rattle.symmetrize_standardize_laws.specs.Found.{positions-count}
 use Rattle.symmetrize_standardize.specs.Stages.{CellListed, assigning, labelCells, OrbitsLettered, toldBy, Finished, Uncleared}
 use Rattle.symmetrize_standardize.proofs.General.{promised-checked, promised-answer}

@@ -28,7 +28,7 @@ use Rattle.definitions.specs.WholeCalls.{Given, jobFrom}
 use Rattle.laws.specs.Verdicts.{Passed}
 use Rattle.math_matrix.specs.Laws.{Three}
 use Rattle.base_cell.specs.Maps.{permutations-map}
-use Rattle.base_transformation.specs.Covered.{run-points-count}
+use Rattle.base_transformation_laws.specs.Covered.{run-points-count}
 use Rattle.symmetrize_standardize_laws.specs.Found.{positions-count, aligned-permutations}
 use Rattle.symmetrize_standardize.proofs.General.{promised-checked, promised-answer}
 use Rattle.symmetrize_standardize.proofs.Facts.{site-count, of-operations, of-targets, of-positions}

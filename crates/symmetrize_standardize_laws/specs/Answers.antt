@@ -25,8 +25,8 @@ use Rattle.math_matrix.specs.Laws.{Three}
 use Rattle.math_snf_laws.specs.Runs.{every}
 use Rattle.base_cell.specs.Maps.{Permutations, permutations-map}
 use Rattle.base_cell.specs.Rearranged.{joined-below}
-use Rattle.base_transformation.specs.Listed.{positions-count as listed-count, listing-copies}
-use Rattle.symmetrize_wyckoff.specs.Unique.{equal-sites}
+use Rattle.base_transformation_laws.specs.Listed.{positions-count as listed-count, listing-copies}
+use Rattle.symmetrize_wyckoff_laws.specs.Unique.{equal-sites}
 use Rattle.symmetrize_wyckoff.specs.Lettered.{unfit-by, Letters, demand-of-lettering}
 use Rattle.symmetrize_standardize_laws.specs.Found.{positions-count, copies-positive, aligned-permutations, design-found, work-found}
 use Rattle.symmetrize_standardize_laws.specs.Same.{same-design, answer-unique}

@@ -12,7 +12,7 @@ use Rattle.definitions.specs.Orbit.{multiplicities, orbits}
 use Rattle.definitions.specs.Wyckoff.{sitesOf, letters}
 use Rattle.definitions.specs.Standardize.{siteCount, listedCount, letteringOf, Work, answerOf}
 use Rattle.math_snf_laws.specs.Unique.{run-unique}
-use Rattle.symmetrize_wyckoff.specs.Unique.{equal-sites}
+use Rattle.symmetrize_wyckoff_laws.specs.Unique.{equal-sites}
 
 module _ (j : Job) where
   -- any run gives the job's design

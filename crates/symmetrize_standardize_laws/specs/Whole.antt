@@ -15,7 +15,7 @@ use Rattle.definitions.specs.Demand.{IsOneJob, DemandOfWhole}
 use Rattle.laws.specs.Order.{none-of, none-over, later-applies, applies-later}
 use Rattle.laws.specs.Verdicts.{answered-returns}
 use Rattle.math_matrix.specs.Laws.{Three}
-use Rattle.job.specs.Decode.{decode, decode-sound, not-a-job, job-unique}
+use Rattle.job_laws.specs.Decode.{decode, decode-sound, not-a-job, job-unique}
 use Rattle.symmetrize_standardize_laws.specs.Calls.{BytesArguments, bytesCall, ListsArguments, listsCall}
 use Rattle.symmetrize_standardize_laws.specs.Answers.{Answers, demand-of-whole}
 

@@ -18,7 +18,7 @@ use Rattle.laws.specs.Order.{FailBefore, past-before, numbered, refused-first}
 use Rattle.laws.specs.Verdicts.{answered-returns}
 use Rattle.base_cell.specs.Maps.{Permutations}
 use Rattle.base_cell.specs.Labelling.{given-permutations, given-labels}
-use Rattle.symmetrize_wyckoff.specs.Unique.{equal-sites}
+use Rattle.symmetrize_wyckoff_laws.specs.Unique.{equal-sites}
 use Rattle.symmetrize_wyckoff.specs.Spaces.{spaces-found, alike-texts}
 use Rattle.symmetrize_wyckoff.specs.Lettered.{Letters, demand-of-lettering}
 

@@ -10,7 +10,7 @@ use Rattle.definitions.specs.Demand.{FittingCall, PastBefore13, HasDesign, Thir
 use Rattle.definitions.specs.Demand.{AlikeFree, OrderFree, DemandOfLettering}
 use Rattle.base_cell.specs.Maps.{Permutations}
 use Rattle.base_cell.specs.Rearranged.{any-size}
-use Rattle.symmetrize_wyckoff.specs.Unique.{alike-sites, sites-unique}
+use Rattle.symmetrize_wyckoff_laws.specs.Unique.{alike-sites, sites-unique}
 
 -- designs that are alike and joined alike are both without a fit or neither
 pub same-fits : {g g′ : Lettering} → Alike g g′ → JoinTheSame (g .permutations) (g′ .permutations) → Found g → Found g′ → Unfit g ↔ Unfit g′

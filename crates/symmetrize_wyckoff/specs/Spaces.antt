@@ -16,7 +16,7 @@ use Rattle.definitions.specs.Coordinates.{Triplet, Reads, Readable, rows, origi
 use Rattle.definitions.specs.Wyckoff.{Space, textsOf, AreSpaces}
 use Rattle.definitions.specs.Standardize.{BadCoordinates}
 use Rattle.math_snf_laws.specs.Runs.{every}
-use Rattle.data_wyckoff.specs.Reading.{reads?}
+use Rattle.data_wyckoff_laws.specs.Reading.{reads?}
 
 read : (text : List ℕ) → ((Readable text → ⊥) → ⊥) → (t : Triplet) × Reads text t
 read text h = by (reads? text)

@@ -5,7 +5,7 @@ use native.Mathlib.Omega.{arith}
 use lib.ListN.{length}
 use borrow.Author.Tests.{not-true, not-false}
 use Rattle.definitions.specs.Limits.{most-bytes}
-use Rattle.job.specs.Reader.{bytes-known}
+use Rattle.job_laws.specs.Reader.{bytes-known}
 use Rattle.job.specs.Places.{Closes}
 use Rattle.job.proofs.Jobs.{too-long, opens-not, closes-not, a-job}
 use borrow.Author.Needs.{needs}

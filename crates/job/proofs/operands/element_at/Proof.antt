@@ -1,6 +1,6 @@
 -- Four bytes, and their complement.
 use mathlib.Core.Path.{ap, _∙_}
-use Rattle.job.specs.Reader.{fromComplement}
+use Rattle.job_laws.specs.Reader.{fromComplement}
 use Rattle.job.proofs.Words.{word4-is}
 use mir.Syntax.{w32}
 use mir.ValLaws.{toZ-ofZ}

@@ -6,7 +6,7 @@ use mathlib.Core.Option.{some}
 use lib.ListN.{length, take, replicate}
 use lib.IntN.{ℤ, pos, negsuc}
 use Rattle.definitions.specs.Job.{Parts, IsJob}
-use Rattle.job.specs.Decode.{decode, decode-sound, not-a-job}
+use Rattle.job_laws.specs.Decode.{decode, decode-sound, not-a-job}
 
 -- 0.0 and 1.0, eight bytes each
 abbrev zeros : List ℕ

@@ -25,7 +25,7 @@ use Rattle.laws.specs.Tests.{off, neither-left}
 use Rattle.laws.specs.Order.{FailBefore, past-before}
 use Rattle.math_matrix.specs.Laws.{Three}
 use Rattle.math_snf_laws.specs.Runs.{every}
-use Rattle.base_transformation.specs.Covered.{run-points-count, run-covers}
+use Rattle.base_transformation_laws.specs.Covered.{run-points-count, run-covers}
 
 module _ {c : Matrix} (shape : Three c) (regular : 0 < copies c) (r : Run c) (es : List ℤ) (ps : List Position) where
   abbrev pts : List (List ℤ)

@@ -9,7 +9,7 @@ use lib.Ieee.Fits.{and-i}
 use Rattle.definitions.specs.Lists.{all, each, first}
 use Rattle.definitions.specs.Coordinates.{Item, Signed, Term, Triplet, isItem, itemOf, items, isTerm, isTriplet, printAxis, printDigit, printItem, printFirst, printNext, printTerm, print}
 use Rattle.laws.specs.Lists.{all-head, all-tail, all-cons, all-snoc}
-use Rattle.data_wyckoff.specs.Reader.{Token, Lead, State, printToken, tokens, token, close, atEnd, onToken, on, step, triplet, finish, parse}
+use Rattle.data_wyckoff_laws.specs.Reader.{Token, Lead, State, printToken, tokens, token, close, atEnd, onToken, on, step, triplet, finish, parse}
 
 -- ---- a token is one of the listed, and prints as the byte
 

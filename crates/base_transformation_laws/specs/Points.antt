@@ -14,9 +14,9 @@ use Rattle.definitions.specs.Demand.{ExactlyOne, DifferByWhole, Covers}
 use Rattle.definitions.specs.Limits.{copies}
 use Rattle.math_matrix.specs.Exprs.{three-eq}
 use Rattle.laws.specs.Lists.{below-upTo, map-at, each-at}
-use Rattle.base_transformation.specs.Residues.{residue, quotient, residue-below, residue-quotient, residue-unique}
-use Rattle.base_transformation.specs.Box.{positive, placeOf, length-box, box-place, placeOf-below, box-below, box-back, box-at}
-use Rattle.base_transformation.specs.Smith.{Smith, factor, volume, d-times, to-diagonal, from-diagonal}
+use Rattle.base_transformation_laws.specs.Residues.{residue, quotient, residue-below, residue-quotient, residue-unique}
+use Rattle.base_transformation_laws.specs.Box.{positive, placeOf, length-box, box-place, placeOf-below, box-below, box-back, box-at}
+use Rattle.base_transformation_laws.specs.Smith.{Smith, factor, volume, d-times, to-diagonal, from-diagonal}
 
 abbrev residues : State → List (List ℤ)
 residues t = box (factor t 0) (factor t 1) (factor t 2)

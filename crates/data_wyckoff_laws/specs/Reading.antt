@@ -8,8 +8,8 @@ use lib.Dec.{T, T-not}
 use lib.ListN.{length, replicate}
 use Rattle.definitions.specs.Lists.{those}
 use Rattle.definitions.specs.Coordinates.{Axis, Item, Signed, Triplet, spaceless, Reads, inRange, Readable}
-use Rattle.data_wyckoff.specs.Reader.{parse, parse-print}
-use Rattle.data_wyckoff.specs.Sound.{parse-sound}
+use Rattle.data_wyckoff_laws.specs.Reader.{parse, parse-print}
+use Rattle.data_wyckoff_laws.specs.Sound.{parse-sound}
 
 -- the reader's answer on a string that is in the grammar
 pub reads-parse : (text : List ℕ) (t : Triplet) → Reads text t → parse (spaceless text) ≡ some t

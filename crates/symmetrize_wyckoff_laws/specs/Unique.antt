@@ -7,7 +7,7 @@ use Rattle.definitions.specs.Snf.{Run}
 use Rattle.math_snf_laws.specs.Unique.{run-unique}
 use Rattle.definitions.specs.Coordinates.{Triplet, rows, originOf}
 use Rattle.definitions.specs.Wyckoff.{Space, IsSpace, textsOf, AreSpaces, Lettering, Found, sitesOf, choices}
-use Rattle.data_wyckoff.specs.Reading.{read-unique}
+use Rattle.data_wyckoff_laws.specs.Reading.{read-unique}
 use Rattle.definitions.specs.Orbit.{Labels, multiplicities}
 use Rattle.definitions.specs.Demand.{Alike, JoinTheSame}
 use Rattle.base_cell.specs.Labels.{labels-unique, same-joins-same-labels}

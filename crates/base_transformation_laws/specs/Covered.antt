@@ -14,8 +14,8 @@ use Rattle.definitions.specs.Demand.{ExactlyOne, DifferByWhole, Covers}
 use Rattle.definitions.specs.Limits.{copies}
 use Rattle.math_matrix.specs.Laws.{Three}
 use Rattle.math_snf_laws.specs.Runs.{lmr, left-unit, right-unit, diagonal, factor as factor-of}
-use Rattle.base_transformation.specs.Smith.{Smith, factor, diagonalOf}
-use Rattle.base_transformation.specs.Points.{points-count, point-covers, covers}
+use Rattle.base_transformation_laws.specs.Smith.{Smith, factor, diagonalOf}
+use Rattle.base_transformation_laws.specs.Points.{points-count, point-covers, covers}
 
 module _ {c : Matrix} (shape : Three c) (regular : 0 < copies c) (r : Run c) where
   smith : Smith c (r .third)

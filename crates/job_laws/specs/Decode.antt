@@ -10,7 +10,7 @@ use lib.Pow.{areBytes}
 use Rattle.definitions.specs.Lists.{each}
 use Rattle.definitions.specs.Job.{Parts, latticeCommand, transformation, centring, SitePart, OperationPart, CandidatePart, holdsSite, holdsOperation, holdsCandidate, holdsParts, unsigneds, signeds, bytes, signedBytes, floats, entries, encode, IsJob, EncodeInjective}
 use Rattle.definitions.specs.Limits.{text-bytes}
-use Rattle.job.specs.Reader.{Reader, Inverse, number, integer, times, behind, closed, atMost, many, mapped, _then_, number-inverse, integer-inverse, times-inverse, behind-inverse, many-after, closed-inverse, mapped-inverse, then-inverse}
+use Rattle.job_laws.specs.Reader.{Reader, Inverse, number, integer, times, behind, closed, atMost, many, mapped, _then_, number-inverse, integer-inverse, times-inverse, behind-inverse, many-after, closed-inverse, mapped-inverse, then-inverse}
 
 -- ---- the operands of each command
 

@@ -1,0 +1,1 @@
+// Theorems on lattice points and listed sites; they stand in specs/.

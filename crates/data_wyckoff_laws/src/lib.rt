@@ -1,0 +1,1 @@
+// Theorems on the reading of coordinates; they stand in specs/.

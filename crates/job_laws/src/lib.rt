@@ -1,0 +1,1 @@
+// Theorems on the bytes of a job; they stand in specs/.

@@ -1,0 +1,2 @@
+-- The letters of orbits: what an order of the permutations cannot change.
+pub mod Unique

@@ -1,0 +1,1 @@
+// Theorems on the letters of orbits; they stand in specs/.
