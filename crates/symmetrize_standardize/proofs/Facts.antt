@@ -1,4 +1,4 @@
--- What lists past the tests of 2 to 5 are: of one length where they belong together, within the limits; and the job's
+-- What lists past the tests of 2 to 4 are: of one length where they belong together, within the limits; and the job's
 -- conditions by the lists themselves.
 use Prim.Native.Nat.{ℕ, _*_}
 use mathlib.Core.Path.{_≡_}
@@ -16,7 +16,7 @@ use Rattle.definitions.specs.Wyckoff.{textsOf}
 use Rattle.definitions.specs.Standardize.{siteCount, badCounts, badEntry, badFloat, badImage}
 use Rattle.definitions.specs.WholeCalls.{Given, jobFrom, unlikeLists}
 use Rattle.laws.specs.Tests.{neither-left, neither-right}
-use Rattle.symmetrize_standardize.specs.Stages.{listCounts, listEntries, listFloats, listImages}
+use Rattle.symmetrize_standardize.specs.Stages.{listCounts, listEntries, listFloats}
 use Rattle.symmetrize_standardize.proofs.Together.{length-sites, elements-of, positions-of, all-sites, all-translations}
 use Rattle.symmetrize_standardize.proofs.Together.{length-operations, rotations-of, all-rotations, length-candidates, texts-of}
 
@@ -107,7 +107,7 @@ module _ (x : Given) (k : Like x) where
         all-translations positionWithin (x .targetRotations) (x .targetTranslations) (k .targets),
       )
 
-  pub same-images : badImage (jobFrom x) ≡ listImages x
+  pub same-images : badImage (jobFrom x) ≡ badImages (length (x .positions)) (length (x .rotations)) (x .images)
   unfolding jobFrom
   same-images =
       rw (
@@ -133,10 +133,9 @@ pub record Within (x : Given) : Type 0 where
   pub shift : not (positionWithin (x .shift)) ≡ false
   pub positions : not (all cellsWithin (x .positions)) ≡ false
   pub target-translations : not (all cellsWithin (x .targetTranslations)) ≡ false
-  pub permutations : badImages (length (x .positions)) (length (x .rotations)) (x .images) ≡ false
 
-pub within : (x : Given) → listCounts x ≡ false → listEntries x ≡ false → listFloats x ≡ false → listImages x ≡ false → Within x
-within x counts entries floats images =
+pub within : (x : Given) → listCounts x ≡ false → listEntries x ≡ false → listFloats x ≡ false → Within x
+within x counts entries floats =
     let (c₅, c-images) = split _ (unlike (length (x .images)) (length (x .rotations) * length (x .positions))) counts in
     let (c₄, c-candidates) = split _ (tooManyCandidates (length (x .texts))) c₅ in
     let (c₃, c-conventional) = split _ (notSome (length (x .conventional))) c₄ in
@@ -167,5 +166,4 @@ within x counts entries floats images =
       shift = f-shift;
       positions = f-positions;
       target-translations = f-targets;
-      permutations = images;
     }

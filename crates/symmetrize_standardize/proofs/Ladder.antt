@@ -1,4 +1,4 @@
--- The whole call's verdict before 13: by its own tests up to 5, then by what its sub-calls told.
+-- The whole call's verdict before 13: by its own tests up to 4, then by what its sub-calls told.
 use Prim.Native.Nat.{ℕ, _*_, _≤_, _<_}
 use mathlib.Core.Path.{_≡_, refl, sym, ap, _∙_, subst}
 use mathlib.Core.Bool.{Bool, true, false, _||_, cond}
@@ -14,6 +14,7 @@ use Rattle.definitions.specs.Lists.{any, Some}
 use Rattle.definitions.specs.Refusal.{Condition, Applies, Checked, precedence, counts, matrix-entry, float-range, site-image}
 use Rattle.definitions.specs.Refusal.{coordinates, determinant, diagonalisation, listed-sites, buffer, target-rotation, lattice}
 use Rattle.definitions.specs.Limits.{notUnimodular, badCopies, copies, tooManyListed, shorterThan}
+use Rattle.definitions.specs.Lent.{badImages}
 use Rattle.definitions.specs.Snf.{Leaves}
 use Rattle.definitions.specs.Symmetrization.{latticeFails, conventionalBasis}
 use Rattle.definitions.specs.Calls.{centringConditions, alignConditions, latticeConditions}
@@ -25,43 +26,47 @@ use Rattle.laws.specs.Tests.{so, not-so, off, neither, neither-left, neither-ri
 use Rattle.laws.specs.Limits.{few-entries}
 use Rattle.laws.specs.Order.{numbered}
 use Rattle.laws.specs.Verdicts.{HoldsAt, Passed, found-at, refuse, verdictOf}
-use Rattle.symmetrize_standardize.specs.Stages.{refusedWith, listCounts, listEntries, listFloats, listImages, givenVerdict}
+use Rattle.symmetrize_standardize.specs.Stages.{refusedWith, listCounts, listEntries, listFloats, givenVerdict}
 use Rattle.symmetrize_standardize.specs.Stages.{Told, lesser, leastRoom, workVerdict, wholeVerdict}
 use Rattle.symmetrize_standardize.proofs.General.{Until, rung, until-then, told-applies, told-first}
 use Rattle.symmetrize_standardize.proofs.Facts.{Like, like, site-count, of-operations, of-targets, of-texts}
 use Rattle.symmetrize_standardize.proofs.Facts.{same-counts, same-entries, same-floats, same-images, Within, within}
 
--- ---- 2 to 5
+-- ---- 2 to 4
 
 module _ (x : Given) (rooms : Rooms) where
   abbrev pub conditions : List Condition
   conditions = listsConditions x rooms
 
-  -- what lists past 5 are
+  -- what lists past 4 are
   pub like-lists : Passed conditions 1 → Like x
   unfolding Passed
   like-lists p = like x (off _ (p .0))
 
-  pub within-limits : Passed conditions 5 → Within x
+  pub within-limits : Passed conditions 4 → Within x
   unfolding Passed
   within-limits p =
       let k = like x (off _ (p .0)) in
       within x (sym (same-counts x k) ∙ off _ (p .1 .0)) (sym (same-entries x k) ∙ off _ (p .1 .1 .0))
-      (sym (same-floats x k) ∙ off _ (p .1 .1 .1 .0)) (sym (same-images x k) ∙ off _ (p .1 .1 .1 .1 .0))
+      (sym (same-floats x k) ∙ off _ (p .1 .1 .1 .0))
 
-  pub given-until : Until conditions 5 (givenVerdict x)
+  -- and past 5
+  pub permutations : Passed conditions 5 → badImages (length (x .positions)) (length (x .rotations)) (x .images) ≡ false
+  unfolding Passed
+  permutations p = sym (same-images x (like x (off _ (p .0)))) ∙ off _ (p .1 .1 .1 .1 .0)
+
+  pub given-until : Until conditions 4 (givenVerdict x)
   unfolding Passed HoldsAt verdictOf found-at
   given-until =
-      rung conditions 0 5 counts (unlikeLists x) _ tt (λ h. h) (λ h. h) (λ p h. refl) (λ p₁.
+      rung conditions 0 4 counts (unlikeLists x) _ tt (λ h. h) (λ h. h) (λ p h. refl) (λ p₁.
       let k = like x (off _ (p₁ .0)) in
-      rung conditions 1 5 counts (listCounts x) _ p₁ (subst T (sym (same-counts x k))) (subst T (same-counts x k)) (λ p h. refl) (λ p₂.
-      rung conditions 2 5 matrix-entry (listEntries x) _ p₂ (subst T (sym (same-entries x k))) (subst T (same-entries x k)) (λ p h. refl) (λ p₃.
-      rung conditions 3 5 float-range (listFloats x) _ p₃ (subst T (sym (same-floats x k))) (subst T (same-floats x k)) (λ p h. refl) (λ p₄.
-      rung conditions 4 5 site-image (listImages x) Accepted p₄ (subst T (sym (same-images x k))) (subst T (same-images x k)) (λ p h. refl) (λ p₅. p₅)))))
+      rung conditions 1 4 counts (listCounts x) _ p₁ (subst T (sym (same-counts x k))) (subst T (same-counts x k)) (λ p h. refl) (λ p₂.
+      rung conditions 2 4 matrix-entry (listEntries x) _ p₂ (subst T (sym (same-entries x k))) (subst T (same-entries x k)) (λ p h. refl) (λ p₃.
+      rung conditions 3 4 float-range (listFloats x) Accepted p₃ (subst T (sym (same-floats x k))) (subst T (same-floats x k)) (λ p h. refl) (λ p₄. p₄))))
 
 -- few sites, where the first verdict accepts
 pub given-few : (x : Given) → givenVerdict x ≡ Accepted → length (x .positions) ≤ 256
-given-few x e = ltb-false _ _ (within-limits x nowhere (subst (Until (conditions x nowhere) 5) e (given-until x nowhere)) .sites)
+given-few x e = ltb-false _ _ (within-limits x nowhere (subst (Until (conditions x nowhere) 4) e (given-until x nowhere)) .sites)
   where
     nowhere : Rooms
     nowhere = record { positions = 0; points = 0; mapping = 0; elements = 0; labels = 0; multiplicities = 0; letters = 0; primitive = 0 }
@@ -93,18 +98,23 @@ module _ (x : Given) (w : Within x) where
   unfolding Passed
   centring-entries = (not-so (w .c-entries), tt)
 
+  pub align-limits :
+      Passed (alignConditions (x .t) (x .rotations) (x .images) (length (x .positions)) (x .targetRotations) alignedRoom) 2
+  unfolding Passed
+  align-limits = (
+    not-so (neither (neither (neither (w .sites) (w .operations)) (w .images)) (w .targets)),
+    (not-so (neither (neither (w .t-entries) (w .operation-entries)) (w .target-entries)), tt),
+  )
+
   module _ (unimodular : notUnimodular (x .t) ≡ false) where
     pub align-passed :
+        badImages (length (x .positions)) (length (x .rotations)) (x .images) ≡ false →
         Passed (alignConditions (x .t) (x .rotations) (x .images) (length (x .positions)) (x .targetRotations) alignedRoom) 5
     unfolding Passed
-    align-passed =
-        let fits = few-entries (length (x .positions)) (length (x .targetRotations)) (w .targets) (ltb-false _ _ (w .sites)) in (
-          not-so (neither (neither (neither (w .sites) (w .operations)) (w .images)) (w .targets)),
-          (
-            not-so (neither (neither (w .t-entries) (w .operation-entries)) (w .target-entries)),
-            (not-so (w .permutations), (not-so unimodular, (not-so (le-ltb _ _ fits), tt))),
-          ),
-        )
+    align-passed permuted =
+        let q = align-limits in
+        let fits = few-entries (length (x .positions)) (length (x .targetRotations)) (w .targets) (ltb-false _ _ (w .sites)) in
+        (q .0, (q .1 .0, (not-so permuted, (not-so unimodular, (not-so (le-ltb _ _ fits), tt)))))
 
     pub lattice-passed : badCopies (x .c) ≡ false → Passed (latticeConditions (x .lattice) (x .t) (x .c) (x .conventional)) 4
     unfolding Passed
@@ -116,9 +126,22 @@ module _ (x : Given) (w : Within x) where
       ),
     )
 
--- ---- 6 and 8 by the prepared candidates, 8 by C, 11 by the aligned permutations, 12 by the lattice
+-- ---- 5 and 11 by the aligned permutations, 6 and 8 by the prepared candidates, 8 by C, 12 by the lattice
 
 module _ (x : Given) (s : Told) (r : Right x s) (w : Within x) where
+  pub five : T (refusedWith site-image (s .aligned)) → T (badImages (length (x .positions)) (length (x .rotations)) (x .images))
+  unfolding Applies
+  five h =
+      ⊎-elim (λ b. b) (λ n. absurd n)
+      (told-applies (alignConditions (x .t) (x .rotations) (x .images) (length (x .positions)) (x .targetRotations) alignedRoom) (s .aligned) (r .aligned) site-image h)
+
+  pub from-five : T (badImages (length (x .positions)) (length (x .rotations)) (x .images)) → T (refusedWith site-image (s .aligned))
+  unfolding HoldsAt verdictOf found-at numbered any precedence
+  from-five h =
+      let cs = alignConditions (x .t) (x .rotations) (x .images) (length (x .positions)) (x .targetRotations) alignedRoom in
+      told-first cs tt (s .aligned) (r .aligned) site-image
+      (refuse cs 2 (align-limits x w) h (Refused site-image) refl)
+
   pub six : T (refusedWith coordinates (s .prepared)) → BadCoordinates (x .texts)
   unfolding Applies
   six h = ⊎-elim (λ b. b) (λ n. absurd n) (told-applies (prepareAllConditions (x .texts) tableRooms) (s .prepared) (r .prepared) coordinates h)
@@ -169,12 +192,13 @@ module _ (x : Given) (s : Told) (r : Right x s) (w : Within x) where
       (told-applies (alignConditions (x .t) (x .rotations) (x .images) (length (x .positions)) (x .targetRotations) alignedRoom) (s .aligned) (r .aligned) target-rotation h)
 
   pub from-eleven :
-      notUnimodular (x .t) ≡ false → T (rotationAbsent (x .t) (x .rotations) (x .targetRotations)) → T (refusedWith target-rotation (s .aligned))
+      badImages (length (x .positions)) (length (x .rotations)) (x .images) ≡ false → notUnimodular (x .t) ≡ false →
+      T (rotationAbsent (x .t) (x .rotations) (x .targetRotations)) → T (refusedWith target-rotation (s .aligned))
   unfolding HoldsAt verdictOf found-at numbered any precedence
-  from-eleven unimodular h =
+  from-eleven permuted unimodular h =
       let cs = alignConditions (x .t) (x .rotations) (x .images) (length (x .positions)) (x .targetRotations) alignedRoom in
       told-first cs tt (s .aligned) (r .aligned) target-rotation
-      (refuse cs 5 (align-passed x w unimodular) h (Refused target-rotation) refl)
+      (refuse cs 5 (align-passed x w unimodular permuted) h (Refused target-rotation) refl)
 
   pub twelve : T (refusedWith lattice (s .lattice)) → T (latticeFails (conventionalBasis (x .lattice) (x .t) (x .c)) (x .conventional))
   unfolding Applies
@@ -272,13 +296,16 @@ module _ (x : Given) (rooms : Rooms) (s : Told) (r : Right x s) where
   abbrev work : Verdict
   work = workVerdict (x .t) (x .c) (length (x .positions)) (leastRoom rooms) (rooms .primitive) s
 
-  work-until : Passed (conditions x rooms) 5 → Until (conditions x rooms) 12 work
+  work-until : Passed (conditions x rooms) 4 → Until (conditions x rooms) 12 work
   unfolding Passed HoldsAt verdictOf found-at jobFrom
-  work-until p₅ =
+  work-until p₄ =
       let cs = conditions x rooms in
-      let k = like-lists x rooms (p₅ .0, tt) in
-      let w = within-limits x rooms p₅ in
+      let k = like-lists x rooms (p₄ .0, tt) in
+      let w = within-limits x rooms p₄ in
       let texts = of-texts x k in
+      rung cs 4 12 site-image (refusedWith site-image (s .aligned)) _ p₄
+      (λ h. subst T (sym (same-images x k)) (five x s r w h)) (λ h. from-five x s r w (subst T (same-images x k) h)) (λ p h. refl) (λ p₅.
+      let permuted = permutations x rooms p₅ in
       rung cs 5 12 coordinates (refusedWith coordinates (s .prepared)) _ p₅
       (λ h. subst BadCoordinates (sym texts) (six x s r w h)) (λ h. from-six x s r w (subst BadCoordinates texts h)) (λ p h. refl) (λ p₆.
       rung cs 6 12 determinant (notUnimodular (x .t) || badCopies (x .c)) _ p₆ (λ h. h) (λ h. h) (λ p h. refl) (λ p₇.
@@ -295,10 +322,10 @@ module _ (x : Given) (rooms : Rooms) (s : Told) (r : Right x s) where
       (shorterThan (length (x .positions) * copies (x .c)) (leastRoom rooms) || shorterThan (length (x .positions)) (rooms .primitive)) _ p₉
       (subst T (sym (short-is x k rooms))) (subst T (short-is x k rooms)) (λ p h. refl) (λ p₁₀.
       rung cs 10 12 target-rotation (refusedWith target-rotation (s .aligned)) _ p₁₀
-      (λ h. subst T (sym (absent-is x k)) (eleven x s r w h)) (λ h. from-eleven x s r w unimodular (subst T (absent-is x k) h)) (λ p h. refl) (λ p₁₁.
+      (λ h. subst T (sym (absent-is x k)) (eleven x s r w h)) (λ h. from-eleven x s r w permuted unimodular (subst T (absent-is x k) h)) (λ p h. refl) (λ p₁₁.
       rung cs 11 12 lattice (refusedWith lattice (s .lattice)) Accepted p₁₁
-      (twelve x s r w) (from-twelve x s r w unimodular copied) (λ p h. refl) (λ p₁₂. p₁₂)))))))
+      (twelve x s r w) (from-twelve x s r w unimodular copied) (λ p h. refl) (λ p₁₂. p₁₂))))))))
 
   -- Past 12, or refused with the lowest number that applies.
   pub whole-until : Until (conditions x rooms) 12 (wholeVerdict x (leastRoom rooms) (rooms .primitive) s)
-  whole-until = until-then (conditions x rooms) 5 12 (givenVerdict x) work (given-until x rooms) work-until
+  whole-until = until-then (conditions x rooms) 4 12 (givenVerdict x) work (given-until x rooms) work-until

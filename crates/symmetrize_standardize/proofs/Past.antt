@@ -32,7 +32,7 @@ use Rattle.symmetrize_standardize.specs.Stages.{Roomy}
 use Rattle.symmetrize_standardize.proofs.General.{told-accepted}
 use Rattle.symmetrize_standardize.proofs.Parts.{none-pass}
 use Rattle.symmetrize_standardize.proofs.Facts.{Like, Within, site-count, of-texts}
-use Rattle.symmetrize_standardize.proofs.Ladder.{conditions, like-lists, within-limits, tableRooms, alignedRoom}
+use Rattle.symmetrize_standardize.proofs.Ladder.{conditions, like-lists, within-limits, permutations, tableRooms, alignedRoom}
 use Rattle.symmetrize_standardize.proofs.Ladder.{align-passed, lattice-passed, listed-is, absent-is}
 
 -- ---- what is known
@@ -62,7 +62,11 @@ module _ (x : Given) (rooms : Rooms) (p : Passed (conditions x rooms) 12) where
 
   pub known-within : Within x
   unfolding Passed
-  known-within = within-limits x rooms (p .0, (p .1 .0, (p .1 .1 .0, (p .1 .1 .1 .0, (p .1 .1 .1 .1 .0, tt)))))
+  known-within = within-limits x rooms (p .0, (p .1 .0, (p .1 .1 .0, (p .1 .1 .1 .0, tt))))
+
+  given-permutations : badImages (length (x .positions)) (length (x .rotations)) (x .images) ≡ false
+  unfolding Passed
+  given-permutations = permutations x rooms (p .0, (p .1 .0, (p .1 .1 .0, (p .1 .1 .1 .0, (p .1 .1 .1 .1 .0, tt)))))
 
   dets : (notUnimodular (x .t) || badCopies (x .c)) ≡ false
   unfolding Passed jobFrom
@@ -211,7 +215,7 @@ module _ (x : Given) (rooms : Rooms) (p : Passed (conditions x rooms) 12) where
   unfolding Passed numbered any precedence verdictOf found-none
   align-accepts v e =
       let cs = alignConditions (x .t) (x .rotations) (x .images) (length (x .positions)) (x .targetRotations) alignedRoom in
-      let q = align-passed x known-within unimodular in
+      let q = align-passed x known-within unimodular given-permutations in
       let present : T (rotationAbsent (x .t) (x .rotations) (x .targetRotations)) → ⊥ =
       λ h. p .1 .1 .1 .1 .1 .1 .1 .1 .1 .1 .0 (subst T (sym (absent-is x known-like)) h) in
       told-accepted cs tt v e (accept cs (q .0, (q .1 .0, (q .1 .1 .0, (q .1 .1 .1 .0, (q .1 .1 .1 .1 .0, (present, tt)))))) refl)

@@ -25,7 +25,7 @@ use Rattle.definitions.specs.Orbit.{orbits}
 use Rattle.definitions.specs.Calls.{PositionsPromise, PointsPromise}
 use Rattle.definitions.specs.SiteCalls.{ListingCells, CopiesListed, LabelArguments, LabelCells, LabelPromise, LetterCells}
 use Rattle.definitions.specs.SiteCalls.{SpaceCells, AssignArguments, Assigned}
-use Rattle.definitions.specs.Lent.{cellsWithin, badImages, unlike}
+use Rattle.definitions.specs.Lent.{cellsWithin, unlike}
 use Rattle.definitions.specs.Standardize.{Rooms, Answer, IsAnswer}
 use Rattle.definitions.specs.WholeCalls.{Given, jobFrom, unlikeLists, listsConditions, AnswerCells, roomsOf}
 use Rattle.definitions.specs.WholeCalls.{HoldsAnswer, toldWhole}
@@ -40,7 +40,7 @@ abbrev pub thenVerdict : Verdict → Verdict → Verdict
 thenVerdict Accepted v = v
 thenVerdict (Refused k) v = Refused k
 
--- ---- 2 to 5, by the lists themselves, where those that belong together have one length
+-- ---- 2 to 4, by the lists themselves, where those that belong together have one length
 
 abbrev pub listCounts : Given → Bool
 listCounts x =
@@ -68,18 +68,14 @@ listFloats x =
     || not (all cellsWithin (x .targetTranslations))
     || not (goodSymprec (x .symprec))
 
-abbrev pub listImages : Given → Bool
-listImages x = badImages (length (x .positions)) (length (x .rotations)) (x .images)
-
 abbrev pub givenVerdict : Given → Verdict
 givenVerdict x =
     cond (unlikeLists x) (Refused counts)
     (cond (listCounts x) (Refused counts)
     (cond (listEntries x) (Refused matrix-entry)
-    (cond (listFloats x) (Refused float-range)
-    (cond (listImages x) (Refused site-image) Accepted))))
+    (cond (listFloats x) (Refused float-range) Accepted)))
 
--- ---- 6 to 12, by the verdicts of the sub-calls
+-- ---- 5 to 12, by the verdicts of the sub-calls
 
 -- of the candidates that are prepared, of C's invariant factors, of the aligned permutations and of the lattice
 pub record Told : Type 0 where
@@ -102,13 +98,14 @@ leastRoom r =
 -- for n sites, with a room in listed and one in primitive sites
 abbrev pub workVerdict : Matrix → Matrix → ℕ → ℕ → ℕ → Told → Verdict
 workVerdict t c n listed primitive s =
-    cond (refusedWith coordinates (s .prepared)) (Refused coordinates)
+    cond (refusedWith site-image (s .aligned)) (Refused site-image)
+    (cond (refusedWith coordinates (s .prepared)) (Refused coordinates)
     (cond (notUnimodular t || badCopies c) (Refused determinant)
     (cond (refusedWith diagonalisation (s .factors) || refusedWith diagonalisation (s .prepared)) (Refused diagonalisation)
     (cond (tooManyListed (n * copies c)) (Refused listed-sites)
     (cond (shorterThan (n * copies c) listed || shorterThan n primitive) (Refused buffer)
     (cond (refusedWith target-rotation (s .aligned)) (Refused target-rotation)
-    (cond (refusedWith lattice (s .lattice)) (Refused lattice) Accepted))))))
+    (cond (refusedWith lattice (s .lattice)) (Refused lattice) Accepted)))))))
 
 abbrev pub wholeVerdict : Given → ℕ → ℕ → Told → Verdict
 wholeVerdict x listed primitive s =

@@ -1,6 +1,5 @@
-// The verdict of the whole call before 13: its own tests of 2 to 5, then what its sub-calls told, in the order of the
+// The verdict of the whole call before 13: its own tests of 2 to 4, then what its sub-calls told, in the order of the
 // numbers.
-use base_permutation::all_permutations;
 use checks::all_cells_within;
 use checks::all_in_range;
 use checks::copies;
@@ -33,7 +32,7 @@ ghost use Rattle.definitions.specs.Lent.{cellsWithin, unlike};
 ghost use Rattle.symmetrize_standardize.specs.Stages.{refusedWith, givenVerdict, lesser, leastRoom};
 ghost use Rattle.symmetrize_standardize.specs.Stages.{workVerdict, wholeVerdict};
 
-// ---- 2 to 5
+// ---- 2 to 4
 
 // lists that belong together
 fn unlike_lists(
@@ -202,13 +201,10 @@ fn given_verdict(
     ) {
         return Verdict::Refused(refusal::FLOAT_RANGE);
     }
-    if !all_permutations(images, n, k) {
-        return Verdict::Refused(refusal::SITE_IMAGE);
-    }
     Verdict::Accepted
 }
 
-// ---- 6 to 12
+// ---- 5 to 12
 
 fn refused_with(v: Verdict, k: usize) -> bool
     ensures { λ r. ⌜ r ≡ refusedWith k v ⌝ }
@@ -258,7 +254,8 @@ pub(crate) fn least_room(
     least(positions, e)
 }
 
-// For n sites, with a room in listed and one in primitive sites. 8 is C's or a candidate's.
+// For n sites, with a room in listed and one in primitive sites. 5 is told by the aligned permutations, which test
+// every image past 2 and 3; 8 is C's or a candidate's.
 fn work_verdict(
     t: Linear,
     c: Linear,
@@ -275,6 +272,9 @@ fn work_verdict(
         v ≡ workVerdict t c n «listed_room» «primitive_room»
         (record { prepared = prepared; factors = factors; aligned = aligned; lattice = lattice }) ⌝ }
 {
+    if refused_with(aligned, refusal::SITE_IMAGE) {
+        return Verdict::Refused(refusal::SITE_IMAGE);
+    }
     if refused_with(prepared, refusal::COORDINATES) {
         return Verdict::Refused(refusal::COORDINATES);
     }

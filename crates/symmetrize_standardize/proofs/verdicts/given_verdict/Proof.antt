@@ -1,10 +1,9 @@
 -- `given_verdict`: each return has tested what comes before it.
-use mathlib.Core.Path.{_≡_, refl, sym, ap, _∙_}
-use mathlib.Core.Bool.{false, not}
+use mathlib.Core.Path.{_≡_, refl, sym, _∙_}
+use mathlib.Core.Bool.{false}
 use Rattle.definitions.specs.WholeCalls.{Given, unlikeLists}
-use Rattle.symmetrize_standardize.specs.Stages.{listCounts, listEntries, listFloats}
+use Rattle.symmetrize_standardize.specs.Stages.{listCounts, listEntries}
 use Rattle.symmetrize_standardize.proofs.General.{pick-here, pick-next}
-use borrow.Author.Needs.{needs}
 use Rattle.symmetrize_standardize.proofs.verdicts.given_verdict.Statement.{statement}
 use Rattle.symmetrize_standardize.proofs.verdicts.given_verdict.Tie as tie
 
@@ -42,9 +41,6 @@ counts c = sym (c .before .bad-counts .ensures) ∙ c .if2 .left
 entries : (c : tie.Else3) → listEntries (given (start (c .before .before .before .before .before))) ≡ false
 entries c = sym (c .before .bad-entries .ensures) ∙ c .if3 .left
 
-floats : (c : tie.Else4) → listFloats (given (start (c .before .before .before .before .before .before .before))) ≡ false
-floats c = sym (c .before .bad-floats .ensures) ∙ c .if4 .left
-
 returns : tie.Need-returns
 returns c = pick-here _ _ _ (sym (c .before .unlike-lists .ensures) ∙ c .if1 .taken)
 
@@ -67,28 +63,14 @@ returns-4 c =
 
 returns-5 : tie.Need-returns-5
 returns-5 c =
-    let e₄ = c .before .before in
-    let e₃ = e₄ .before .before in
+    let e₃ = c .before .before in
     let e₂ = e₃ .before .before in
     let e₁ = e₂ .before .before in
     pick-next _ _ _ _ (like e₁)
     (pick-next _ _ _ _ (counts e₂)
-    (pick-next _ _ _ _ (entries e₃)
-    (pick-next _ _ _ _ (floats e₄) (pick-here _ _ _ (ap not (sym (c .before .all-permutations .ensures)) ∙ c .if5 .taken)))))
-
-returns-6 : tie.Need-returns-6
-returns-6 c =
-    let e₄ = c .before .before in
-    let e₃ = e₄ .before .before in
-    let e₂ = e₃ .before .before in
-    let e₁ = e₂ .before .before in
-    pick-next _ _ _ _ (like e₁)
-    (pick-next _ _ _ _ (counts e₂)
-    (pick-next _ _ _ _ (entries e₃)
-    (pick-next _ _ _ _ (floats e₄) (pick-next _ _ _ _ (ap not (sym (c .before .all-permutations .ensures)) ∙ c .if5 .left) refl))))
+    (pick-next _ _ _ _ (entries e₃) (pick-next _ _ _ _ (sym (c .before .bad-floats .ensures) ∙ c .if4 .left) refl)))
 
 pub given-verdict-spec : {M : Type 1} → statement M
 given-verdict-spec =
     tie.close
-    (tie.spec (λ c κs. search needs) returns (λ c κs. search needs) returns-2 (λ c κs. search needs) returns-3 (λ c κs. search needs) returns-4
-    (λ c κs. search needs) returns-5 returns-6)
+    (tie.spec (λ c κs. tt) returns (λ c κs. tt) returns-2 (λ c κs. tt) returns-3 (λ c κs. tt) returns-4 returns-5)

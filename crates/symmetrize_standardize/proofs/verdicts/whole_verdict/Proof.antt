@@ -5,7 +5,6 @@ use Rattle.definitions.specs.WholeCalls.{Given}
 use Rattle.symmetrize_standardize.specs.Stages.{givenVerdict}
 use Rattle.symmetrize_standardize.proofs.General.{then-accepted, then-refused}
 use Rattle.symmetrize_standardize.proofs.Ladder.{given-few}
-use borrow.Author.Needs.{needs}
 use Rattle.symmetrize_standardize.proofs.verdicts.whole_verdict.Statement.{statement}
 use Rattle.symmetrize_standardize.proofs.verdicts.whole_verdict.Tie as tie
 
@@ -48,4 +47,4 @@ returns-2 c =
 pub whole-verdict-spec : {M : Type 1} → statement M
 whole-verdict-spec =
     tie.close
-    (tie.spec (λ c κs. search needs) (λ c. search needs) work-verdict-requires (λ c. search needs) returns returns-2)
+    (tie.spec (λ c κs. tt) (λ c. c .match .keys1) work-verdict-requires (λ c. c .match .keys2) returns returns-2)
