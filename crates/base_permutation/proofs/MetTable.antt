@@ -1,4 +1,4 @@
--- The scan of `is_permutation`: a table of 256 cells says how often each image was met among the first i entries of p,
+-- The scan of `each_once`: a table of 256 cells says how often each image was met among the first i entries of p,
 -- at most once.
 use Prim.Native.Nat.{ℕ, _+_, _≤_, _<_}
 use mathlib.Core.Path.{_≡_, refl, sym, ap, _∙_}

@@ -2,7 +2,7 @@
 -- products are permutations.
 use Prim.Native.Nat.{ℕ, zero, suc, _+_, _≤_, _<_}
 use mathlib.Core.Path.{_≡_, refl, sym, ap, _∙_, subst}
-use mathlib.Core.Bool.{Bool, true, false, _&&_}
+use mathlib.Core.Bool.{Bool, true, false, _&&_, not}
 use mathlib.Core.List.{List, [], _∷_, map}
 use mathlib.Core.Logic.{⊎-elim}
 use native.Mathlib.Omega.{arith}
@@ -15,6 +15,10 @@ use Rattle.definitions.specs.Lists.{count, upTo}
 use Rattle.definitions.specs.Permutation.{image, isPermutation, inverseImage, after}
 use Rattle.laws.specs.Counting.{bit, all-of, all-at, count-cons, count-from, count-once, count-place, first-found, length-upTo, getD-upTo}
 use Rattle.laws.specs.Tests.{never}
+
+-- a cell of the table of the images met
+abbrev pub marked : ℕ → Bool
+marked m = not (eqb m 0)
 
 -- ---- the test and what it says
 
@@ -143,6 +147,48 @@ total-full f m (suc n) e x k =
     let one = m n in
     let all-but-one : total f n ≡ n = omega arith in
     ⊎-elim (λ q. rw q (omega arith)) (λ l. total-full f m n all-but-one x l) (eq-or-lt-of-le (le-of-suc-le-suc k))
+
+total-least : (f : ℕ → ℕ) (n : ℕ) → ((x : ℕ) → x < n → 0 < f x) → n ≤ total f n
+unfolding total
+total-least f zero h = omega arith
+total-least f (suc n) h = omega (arith, total-least f n (λ x k. h x (omega arith)), h n (omega arith))
+
+-- where each counts, the total has room for one of them beside the others
+total-beside : (f : ℕ → ℕ) (n : ℕ) → ((x : ℕ) → x < n → 0 < f x) → (x : ℕ) → x < n → n + f x ≤ total f n + 1
+unfolding total
+total-beside f zero h x k = absurd (not-suc-le-zero k)
+total-beside f (suc n) h x k =
+    let before : (y : ℕ) → y < n → 0 < f y = λ y l. h y (omega arith) in
+    let least = total-least f n before in
+    let last = h n (omega arith) in
+    ⊎-elim (λ q. rw q (omega arith)) (λ l. omega (arith, total-beside f n before x l)) (eq-or-lt-of-le (le-of-suc-le-suc k))
+
+total-grows : (f : ℕ → ℕ) (n m : ℕ) → n ≤ m → total f n ≤ total f m
+unfolding total
+total-grows f n zero h = ⊎-elim (λ q. rw q (omega arith)) (λ l. absurd (not-suc-le-zero l)) (eq-or-lt-of-le h)
+total-grows f n (suc m) h = ⊎-elim (λ q. rw q (omega arith)) (λ l. omega (arith, total-grows f n m (le-of-suc-le-suc l))) (eq-or-lt-of-le h)
+
+total-past : (f : ℕ → ℕ) (n m x : ℕ) → n ≤ x → x < m → total f n + f x ≤ total f m
+unfolding total
+total-past f n zero x h k = absurd (not-suc-le-zero k)
+total-past f n (suc m) x h k =
+    ⊎-elim (λ q. let g = total-grows f n m (omega arith) in rw q (omega arith)) (λ l. omega (arith, total-past f n m x h l)) (eq-or-lt-of-le (le-of-suc-le-suc k))
+
+-- a total of n over the first m places, of which each of the first n counts, leaves nothing for another
+total-tight : (f : ℕ → ℕ) (n m : ℕ) → n ≤ m → total f m ≡ n → ((x : ℕ) → x < n → 0 < f x) → (x : ℕ) → x < m → 0 < f x → (x < n) × (f x ≤ 1)
+total-tight f n m le whole met x k c =
+    let least = total-least f n met in
+    let grows = total-grows f n m le in
+    let out : n ≤ x → ⊥ = λ h. omega (arith, total-past f n m x h k) in
+    let inside : x < n = omega arith in
+    (inside, omega (arith, total-beside f n met x inside))
+
+-- n entries that meet all of n places meet each of them once, and nothing else
+pub onto-passes : (p : List ℕ) (m : ℕ) → length p ≤ m → ((i : ℕ) → i < length p → image p i < m) → ((x : ℕ) → x < length p → 0 < count (eqb x) p) → isPermutation (length p) p ≡ true
+onto-passes p m le below met = passes (length p) p refl (λ i k.
+    let from = count-from (eqb (image p i)) 0 p i k (eq-eqb (image p i) (image p i) refl) in
+    let counts : 0 < count (eqb (image p i)) p = omega arith in
+    total-tight (λ x. count (eqb x) p) (length p) m le (total-count m p below) met (image p i) (below i k) counts)
 
 -- ---- the inverse
 

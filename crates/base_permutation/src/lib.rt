@@ -10,6 +10,7 @@ ghost use Rattle.definitions.specs.Refusal.{Checked};
 ghost use Rattle.definitions.specs.Calls.{identityConditions, inverseConditions, productConditions};
 ghost use Rattle.definitions.specs.Calls.{IdentityPromise, ImagePromise, InversePromise, ProductPromise};
 ghost use Rattle.definitions.specs.Permutation.{isPermutation, permutationAt, inverseImage, after};
+ghost use Rattle.base_permutation.specs.Bijection.{marked};
 use definitions::Image;
 use definitions::PrimSite;
 use definitions::Verdict;
@@ -23,8 +24,8 @@ fn wide(x: u8) -> usize
     x as usize
 }
 
-// Whether p lists each of its own places once: a table says which images were met.
-pub fn is_permutation(p: &[u8]) -> bool
+// Whether p lists each of its own places once, entry by entry: a table says which images were met.
+fn each_once(p: &[u8]) -> bool
     ensures { λ r. ⌜ r ≡ isPermutation (length (now (p .entry))) (now (p .entry)) ⌝ }
 {
     let mut met = [0u8; 256];
@@ -41,6 +42,48 @@ pub fn is_permutation(p: &[u8]) -> bool
         i += 1;
     }
     true
+}
+
+// Whether every cell is marked: no branch, so that many cells are read at a time.
+fn all_marked(marks: &[u8]) -> bool
+    ensures { λ r. ⌜ r ≡ all marked (now (marks .entry)) ⌝ }
+{
+    let mut whole = true;
+    let mut i: usize = 0;
+    while i < marks.len() {
+        whole = whole & (marks[i] != 0);
+        i += 1;
+    }
+    whole
+}
+
+// Whether p lists each of its own places once, with no test of an entry: n entries that meet all of n places meet each
+// of them once.
+fn all_met(p: &[u8]) -> bool
+    requires { ⌜ length (now p) ≤ 256 ⌝ }
+    ensures { λ r. ⌜ r ≡ isPermutation (length (now (p .entry))) (now (p .entry)) ⌝ }
+{
+    let mut marks = [0u8; 256];
+    let mut i: usize = 0;
+    while i < p.len() {
+        let x = wide(p[i]);
+        marks[x] = 1;
+        i += 1;
+    }
+    all_marked(&marks[0..p.len()])
+}
+
+// Whether p lists each of its own places once. Reading the marks again pays in longer lists; the table has 256 of them.
+pub fn is_permutation(p: &[u8]) -> bool
+    ensures { λ r. ⌜ r ≡ isPermutation (length (now (p .entry))) (now (p .entry)) ⌝ }
+{
+    if p.len() < 16 {
+        return each_once(p);
+    }
+    if 256 < p.len() {
+        return each_once(p);
+    }
+    all_met(p)
 }
 
 // Whether k permutations of n sites stand one behind the other at the front of the list: one that is cut short is none.

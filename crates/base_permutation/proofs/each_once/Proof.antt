@@ -1,4 +1,4 @@
--- `base_permutation::is_permutation` meets its contract: the table says which images were met, none of them twice or
+-- `base_permutation::each_once` meets its contract: the table says which images were met, none of them twice or
 -- past the length.
 use Prim.Native.Nat.{ℕ, _-_, _≤_, _<_}
 use mathlib.Core.Path.{_≡_, refl}
@@ -9,8 +9,8 @@ use borrow.Author.Count.{below-more}
 use borrow.Author.Needs.{needs}
 use Rattle.definitions.specs.Permutation.{image}
 use Rattle.base_permutation.proofs.MetTable.{Met, met-none, met-more, met-twice, met-outside, met-all}
-use Rattle.base_permutation.proofs.is_permutation.Statement.{statement}
-use Rattle.base_permutation.proofs.is_permutation.Tie as tie
+use Rattle.base_permutation.proofs.each_once.Statement.{statement}
+use Rattle.base_permutation.proofs.each_once.Tie as tie
 
 abbrev Inv-loop : tie.InvT-loop
 Inv-loop p met₀ i₀ met i = (i ≤ length p) × (length met ≡ 256) × Met p i met × ((j : ℕ) → j < i → image p j < length p)
@@ -58,8 +58,8 @@ returns-3 c =
     let l = c .before .loop in
     met-all (s .args .p .now) (l .met) (l .i) (l .inv .2) (omega arith) (l .inv .3) (λ j. omega (arith, c .before .before .shared-slice-known .given j))
 
-pub is-permutation-spec : {M : Type 1} → statement M
-is-permutation-spec =
+pub each-once-spec : {M : Type 1} → statement M
+each-once-spec =
     tie.close
     (tie.spec Inv-loop μ-loop loop-holds (search needs) (search needs) returns array-read-if2 returns-2
     array-write-met (search needs) (search needs) loop-again returns-3)
