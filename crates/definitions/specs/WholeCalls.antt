@@ -271,6 +271,13 @@ ReadPromise bs entry exit r =
     (HoldsGiven entry exit nothingGiven) o
     × (toldRead o ≡ r)
 
+-- Count the commands of a job's bytes: 1.
+abbrev pub countConditions : List ℕ → List Condition
+countConditions bs = (job-bytes when NoJob bs) ∷ []
+
+abbrev pub CountPromise : List ℕ → JobRead → Type 0
+CountPromise bs r = (o : Outcome Parts) × Returns (countConditions bs) (IsJob bs) o × (toldRead o ≡ r)
+
 -- ---- the report program
 
 -- room for every answer

@@ -7,6 +7,7 @@ use mathlib.Core.Logic.{_⊎_, ⊎-elim}
 use native.Mathlib.Omega.{arith}
 use lib.Dec.{T}
 use Rattle.definitions.specs.declared.JobCounts.{JobCounts}
+use Rattle.definitions.specs.declared.JobRead.{JobRead}
 use Rattle.definitions.specs.declared.JobRead.the-variants.{Read, Refused}
 use Rattle.definitions.specs.declared.Verdict.the-variants as verdict
 use Rattle.definitions.specs.Refusal.{Condition, accepted, refused, Checked}
@@ -17,7 +18,8 @@ use Rattle.laws.specs.Tests.{so, not-so}
 use Rattle.laws.specs.Verdicts.{HoldsAt, Passed, found-at, found-none, refuse, accept, verdictOf, accepted-with, refused-with}
 use Rattle.job_laws.specs.Decode.{job-unique}
 use Rattle.job.specs.Places.{items, run, partsAt, wordAt, integerAt, floatsAt, entriesAt, textAt, latticeAt, cellsFrom, matrixFrom, siteAt, operationAt, candidateAt, sitesFrom, operationsFrom, imagesFrom, targetsFrom, rotationsFrom, candidatesFrom, symprecFrom}
-use Rattle.job.specs.Counted.{JobOf}
+use Rattle.job.specs.Counted.{JobOf, Counted}
+use Rattle.definitions.specs.WholeCalls.{countConditions, CountPromise}
 use Rattle.job.specs.Given.{givenAt, roomsOf, short, Settled}
 use Rattle.job.proofs.Items.{length-items, items-from}
 use Rattle.job.proofs.Words.{word8-is}
@@ -88,12 +90,24 @@ counts-are bs k = λ i.
 
 -- ---- the promise
 
+a-job-not : (bs : List ℕ) (k : JobCounts) → JobOf bs k → NoJob bs → ⊥
+a-job-not bs k j = ⊎-elim (λ h. absurd (omega (arith, j .few))) (λ f. f (partsAt bs k) (j .is))
+
+-- counted
+pub count-kept : (bs : List ℕ) (r : JobRead) → Counted bs r → CountPromise bs r
+unfolding verdictOf found-none found-at Passed HoldsAt
+count-kept bs (Read k) j =
+    let cs = countConditions bs in
+    let p = partsAt bs k in
+    (accepted p, accepted-with cs (IsJob bs) p (accept cs (a-job-not bs k j, tt) refl) (j .is), ap Read (counts-are bs k))
+count-kept bs (Refused n) x =
+    let cs = countConditions bs in
+    (refused 1, refused-with cs (IsJob bs) 1 (refuse cs 0 tt (x .1) (verdict.Refused 1) refl), ap Refused (sym (x .0)))
+
+-- read
 module _ (bs : List ℕ) (entry exit : Given) where
   too-short-is : (k : JobCounts) → tooShortFor entry (partsAt bs k) ≡ short k (roomsOf entry)
   too-short-is k = ap (λ (n : JobCounts). short n (roomsOf entry)) (counts-are bs k)
-
-  a-job-not : (k : JobCounts) → JobOf bs k → NoJob bs → ⊥
-  a-job-not k j = ⊎-elim (λ h. absurd (omega (arith, j .few))) (λ f. f (partsAt bs k) (j .is))
 
   pub read-kept : (k : JobCounts) → JobOf bs k → short k (roomsOf entry) ≡ false → HoldsGiven entry exit (givenAt bs k) → ReadPromise bs entry exit (Read k)
   unfolding verdictOf found-none Passed
@@ -103,7 +117,7 @@ module _ (bs : List ℕ) (entry exit : Given) where
       let fits : (q : Parts) × IsJob bs q × T (tooShortFor entry q) → ⊥ = λ x.
       not-so (too-short-is k ∙ e) (subst (λ (q : Parts). T (tooShortFor entry q)) (job-unique bs (x .0) p (x .1) (j .is)) (x .2)) in (
         accepted p,
-        (accepted-with cs (IsJob bs) p (accept cs (a-job-not k j, (fits, tt)) refl) (j .is), subst (HoldsGiven entry exit) (sym (given-is bs k)) h),
+        (accepted-with cs (IsJob bs) p (accept cs (a-job-not bs k j, (fits, tt)) refl) (j .is), subst (HoldsGiven entry exit) (sym (given-is bs k)) h),
         ap Read (counts-are bs k),
       )
 
@@ -124,4 +138,4 @@ module _ (bs : List ℕ) (entry exit : Given) where
       too-short x =
           let k = x .1 .0 in
           let j = x .1 .1 in
-          with 10 (refuse cs 1 (a-job-not k j, tt) (partsAt bs k, j .is, so (too-short-is k ∙ x .1 .2)) (verdict.Refused 10) refl) (x .0)
+          with 10 (refuse cs 1 (a-job-not bs k j, tt) (partsAt bs k, j .is, so (too-short-is k ∙ x .1 .2)) (verdict.Refused 10) refl) (x .0)

@@ -1,4 +1,4 @@
-// The job's bytes: specs/ proves that they have at most one reading, and `read_job` finds it.
+// The job's bytes: specs/ proves that they have at most one reading, and `read_job` finds it; `count_job` only counts.
 mod fill;
 mod layout;
 mod lists;
@@ -19,7 +19,7 @@ use lent::clear_texts;
 use lent::clear_u8;
 use lent::clear_u16;
 ghost use mathlib.Core.Path.{_≡_};
-ghost use Rattle.definitions.specs.WholeCalls.{HoldsGiven, nothingGiven, ReadPromise};
+ghost use Rattle.definitions.specs.WholeCalls.{HoldsGiven, nothingGiven, ReadPromise, CountPromise};
 ghost use Rattle.job.specs.Given.{lent, rooms, shorterTwo, shorterThree, Settled};
 ghost use Rattle.job.specs.Given as Given;
 
@@ -115,7 +115,14 @@ fn settled(
     }
 }
 
-// ---- the call
+// ---- the calls
+
+// How many of each command the job of the bytes has: refused with 1 if they are no job.
+pub fn count_job(bytes: &[u8]) -> JobRead
+    ensures { λ r. ⌜ CountPromise (now (bytes .entry)) r ⌝ }
+{
+    layout::counted(bytes)
+}
 
 // All lent values zero.
 fn refuse(

@@ -1,176 +1,209 @@
--- A job that does not fit into lists of the greatest legal lengths has bad counts.
-use Prim.Native.Nat.{ℕ, _+_, _*_, _≤_, _<_}
+-- Lists with just the room of a job: it is read into them, and they are its lists.
+use Prim.Native.Nat.{ℕ, _-_, _≤_}
 use mathlib.Core.Path.{_≡_, refl, sym, ap, _∙_, subst}
-use mathlib.Core.Bool.{Bool, true, false, not, _||_}
-use mathlib.Core.List.{List, [], _∷_, map}
+use mathlib.Core.Bool.{false}
+use mathlib.Core.List.{List, [], _∷_, _++_, map, append-nil}
+use mathlib.Core.Logic.{⊎-elim}
 use native.Mathlib.Omega.{arith}
-use borrow.Author.Tests.{le-ltb, ltb-false, eqb-true, not-false}
+use borrow.Author.Tests.{le-ltb}
 use lib.ListN.{length, length-map, replicate, length-replicate}
 use lib.IntN.{pos}
-use lib.Dec.{T, ltb}
+use lib.Dec.{T}
+use Rattle.definitions.specs.declared.JobCounts.{JobCounts}
+use Rattle.definitions.specs.declared.JobRead.{JobRead}
+use Rattle.definitions.specs.declared.Position.{Position}
+use Rattle.definitions.specs.declared.Standardized.{Standardized}
 use Rattle.definitions.specs.Lists.{any}
-use Rattle.definitions.specs.Limits.{tooManySites, notSome, tooManyCandidates, shorterThan}
-use Rattle.definitions.specs.Limits.{most-sites, most-operations, most-images, most-candidates}
-use Rattle.definitions.specs.Job.{Parts, Job, jobOf, siteOf, operationOf, candidateOf, rowsOf}
-use Rattle.definitions.specs.Real.{zeroF}
-use Rattle.definitions.specs.Lent.{unlike, zeroCells, zeroMatrix, zeroBasis, positionFrom}
-use Rattle.definitions.specs.Standardize.{badCounts, siteCount}
-use Rattle.definitions.specs.WholeCalls.{Given, zeroText, tooShortFor}
+use Rattle.definitions.specs.Limits.{shorterThan}
+use Rattle.definitions.specs.Refusal.{Condition, _when_, Applies, job-bytes, buffer, Holds, accepted, refused, Returns}
+use Rattle.definitions.specs.Job.{Parts, IsJob, NoJob, positionOf, rowsOf}
+use Rattle.definitions.specs.Lent.{cellsOf, zeroCells, zeroMatrix}
+use Rattle.definitions.specs.Standardize.{OfParts}
+use Rattle.definitions.specs.WholeCalls.{Given, givenOf, zeroText, tooShortFor, HoldsGiven, readConditions, countsOf}
+use Rattle.definitions.specs.WholeCalls.{ReadPromise, AnswerCells, ListsPromise, BytesPromise}
 use Rattle.laws.specs.Lists.{any-none}
-use Rattle.laws.specs.Limits.{few, few-entries}
-use Rattle.laws.specs.Tests.{not-so, neither, neither-left, neither-right}
+use Rattle.laws.specs.Order.{applies-last}
+use Rattle.laws.specs.Tests.{not-so, neither}
+use Rattle.job_laws.specs.Decode.{job-unique}
+use Rattle.job.specs.Given.{Rooms, roomsOf}
+use Rattle.job_standardize.specs.Bytes.{bytes-promise}
+use Rattle.job_standardize.specs.Counted.{JobOf}
 
--- lists as long as a legal job may need
-pub record Ample (e : Given) : Type 0 where
-  pub elements : length (e .elements) ≡ most-sites
-  pub positions : length (e .positions) ≡ most-sites
-  pub rotations : length (e .rotations) ≡ most-operations
-  pub translations : length (e .translations) ≡ most-operations
-  pub images : length (e .images) ≡ most-images
-  pub targetRotations : length (e .targetRotations) ≡ most-operations
-  pub targetTranslations : length (e .targetTranslations) ≡ most-operations
-  pub conventional : length (e .conventional) ≡ most-operations
-  pub multiplicities : length (e .multiplicities) ≡ most-candidates
-  pub letters : length (e .letters) ≡ most-candidates
-  pub texts : length (e .texts) ≡ most-candidates
+-- as many entries in each list as the job has commands
+pub record JustRoom (bs : List ℕ) (e : Rooms) : Type 0 where
+  pub k : JobCounts
+  pub job : JobOf bs k
+  pub elements : e .elements ≡ k .sites
+  pub positions : e .positions ≡ k .sites
+  pub rotations : e .rotations ≡ k .operations
+  pub translations : e .translations ≡ k .operations
+  pub images : e .images ≡ k .images
+  pub targetRotations : e .targetRotations ≡ k .targets
+  pub targetTranslations : e .targetTranslations ≡ k .targets
+  pub conventional : e .conventional ≡ k .rotations
+  pub multiplicities : e .multiplicities ≡ k .candidates
+  pub letters : e .letters ≡ k .candidates
+  pub texts : e .texts ≡ k .candidates
 
--- the lists before the reading
-abbrev pub blank : Given
-blank =
-    record {
-      lattice = zeroBasis;
-      t = zeroMatrix;
-      shift = positionFrom zeroCells;
-      c = zeroMatrix;
-      elements = replicate most-sites (pos 0);
-      positions = replicate most-sites zeroCells;
-      rotations = replicate most-operations zeroMatrix;
-      translations = replicate most-operations zeroCells;
-      images = replicate most-images 0;
-      targetRotations = replicate most-operations zeroMatrix;
-      targetTranslations = replicate most-operations zeroCells;
-      conventional = replicate most-operations zeroMatrix;
-      multiplicities = replicate most-candidates 0;
-      letters = replicate most-candidates 0;
-      texts = replicate most-candidates zeroText;
-      symprec = zeroF;
-    }
+-- the front of a list of the greatest length
+pub front-length : {A : Type 0} (n m : ℕ) (zero : A) → n ≤ m → n ≤ length (replicate m zero)
+front-length n m zero h = subst (λ l. n ≤ l) (sym (length-replicate m zero)) h
 
-pub blank-ample : Ample blank
-blank-ample =
-    record {
-      elements = length-replicate most-sites (pos 0);
-      positions = length-replicate most-sites zeroCells;
-      rotations = length-replicate most-operations zeroMatrix;
-      translations = length-replicate most-operations zeroCells;
-      images = length-replicate {A = ℕ} most-images 0;
-      targetRotations = length-replicate most-operations zeroMatrix;
-      targetTranslations = length-replicate most-operations zeroCells;
-      conventional = length-replicate most-operations zeroMatrix;
-      multiplicities = length-replicate {A = ℕ} most-candidates 0;
-      letters = length-replicate {A = ℕ} most-candidates 0;
-      texts = length-replicate most-candidates zeroText;
-    }
+-- ---- the reading cannot refuse
 
--- not shorter than the least room of all
-room : (a n l : ℕ) → a ≤ n → l ≡ n → shorterThan a l ≡ false
-room a n l h e = le-ltb l a (omega arith)
+room : (a l : ℕ) → l ≡ a → shorterThan a l ≡ false
+room a l e = le-ltb l a (omega arith)
 
 no-room : (a : ℕ) → any (shorterThan a) [] ≡ false
 unfolding any
 no-room a = refl
 
-two-rooms : (a k l : ℕ) → shorterThan a k ≡ false → shorterThan a l ≡ false → any (shorterThan a) (k ∷ l ∷ []) ≡ false
-two-rooms a k l e f = any-none (shorterThan a) k (l ∷ []) e (any-none (shorterThan a) l [] f (no-room a))
+two-rooms : (a k l : ℕ) → k ≡ a → l ≡ a → any (shorterThan a) (k ∷ l ∷ []) ≡ false
+two-rooms a k l e f = any-none (shorterThan a) k (l ∷ []) (room a k e) (any-none (shorterThan a) l [] (room a l f) (no-room a))
 
-three-rooms :
-    (a k l m : ℕ) → shorterThan a k ≡ false → shorterThan a l ≡ false → shorterThan a m ≡ false →
-    any (shorterThan a) (k ∷ l ∷ m ∷ []) ≡ false
-three-rooms a k l m e f g = any-none (shorterThan a) k (l ∷ m ∷ []) e (two-rooms a l m f g)
+three-rooms : (a k l m : ℕ) → k ≡ a → l ≡ a → m ≡ a → any (shorterThan a) (k ∷ l ∷ m ∷ []) ≡ false
+three-rooms a k l m e f g = any-none (shorterThan a) k (l ∷ m ∷ []) (room a k e) (two-rooms a l m f g)
 
-by-cases : (b : Bool) → (b ≡ false → ⊥) → T b
-by-cases true h = tt
-by-cases false h = absurd (h refl)
+-- ---- what was read into just room
 
-module _ (e : Given) (p : Parts) (ample : Ample e) where
-  abbrev n : ℕ
-  n = length (p .sites)
+exact :
+    {A B : Type 0} (f : A → B) (l : List A) (zero : B) (old cells : List B) → Holds zero old cells (map f l) →
+    length old ≡ length l → cells ≡ map f l
+exact f l zero old cells h e =
+    let none-left : length old - length (map f l) ≡ 0 = omega (arith, e, length-map l f) in
+    h ∙ ap (λ n. map f l ++ replicate n zero) none-left ∙ append-nil (map f l)
 
-  abbrev k : ℕ
-  k = length (p .operations)
+itself : {A : Type 0} (l : List A) (zero : A) (old cells : List A) → Holds zero old cells l → length old ≡ length l → cells ≡ l
+itself l zero old cells h e =
+    let none-left : length old - length l ≡ 0 = omega (arith, e) in
+    h ∙ ap (λ n. l ++ replicate n zero) none-left ∙ append-nil l
 
-  -- the tests of the counts, over the parts' own lengths
-  abbrev bad : Bool
-  bad =
-      tooManySites n
-      || notSome k
-      || notSome (length (p .targets))
-      || notSome (length (p .rotations))
-      || tooManyCandidates (length (p .candidates))
-      || unlike (length (p .images)) (k * n)
+module _ (bs : List ℕ) (entry exit : Given) (just : JustRoom bs (roomsOf entry)) where
+  module _ (p : Parts) (i : IsJob bs p) where
+    is : countsOf p ≡ just .k
+    is = ap countsOf (job-unique bs p (just .job .parts) i (just .job .are)) ∙ just .job .counts
 
-  bad-is : bad ≡ badCounts (jobOf p)
-  unfolding jobOf
-  bad-is = rw (length-map (p .sites) siteOf, length-map (p .operations) operationOf, length-map (p .targets) operationOf, length-map (p .rotations) rowsOf, length-map (p .candidates) candidateOf)
+    sites : {l : ℕ} → l ≡ just .k .sites → l ≡ length (p .sites)
+    sites e = e ∙ ap (λ x. x .sites) (sym is)
 
-  module _ (h : bad ≡ false) where
-    abbrev first-five : Bool
-    first-five =
-        tooManySites n
-        || notSome k
-        || notSome (length (p .targets))
-        || notSome (length (p .rotations))
-        || tooManyCandidates (length (p .candidates))
+    operations : {l : ℕ} → l ≡ just .k .operations → l ≡ length (p .operations)
+    operations e = e ∙ ap (λ x. x .operations) (sym is)
 
-    five : first-five ≡ false
-    five = neither-left first-five _ h
+    images : {l : ℕ} → l ≡ just .k .images → l ≡ length (p .images)
+    images e = e ∙ ap (λ x. x .images) (sym is)
 
-    four : (tooManySites n || notSome k || notSome (length (p .targets)) || notSome (length (p .rotations))) ≡ false
-    four = neither-left _ (tooManyCandidates (length (p .candidates))) five
+    targets : {l : ℕ} → l ≡ just .k .targets → l ≡ length (p .targets)
+    targets e = e ∙ ap (λ x. x .targets) (sym is)
 
-    three : (tooManySites n || notSome k || notSome (length (p .targets))) ≡ false
-    three = neither-left _ (notSome (length (p .rotations))) four
+    rotations : {l : ℕ} → l ≡ just .k .rotations → l ≡ length (p .rotations)
+    rotations e = e ∙ ap (λ x. x .rotations) (sym is)
 
-    two : (tooManySites n || notSome k) ≡ false
-    two = neither-left _ (notSome (length (p .targets))) three
+    candidates : {l : ℕ} → l ≡ just .k .candidates → l ≡ length (p .candidates)
+    candidates e = e ∙ ap (λ x. x .candidates) (sym is)
 
-    sites-few : n ≤ most-sites
-    sites-few = ltb-false most-sites n (neither-left (tooManySites n) (notSome k) two)
-
-    some-operations : notSome k ≡ false
-    some-operations = neither-right (tooManySites n) (notSome k) two
-
-    targets-few : length (p .targets) ≤ most-operations
-    targets-few = few _ (neither-right (tooManySites n || notSome k) _ three)
-
-    rotations-few : length (p .rotations) ≤ most-operations
-    rotations-few = few _ (neither-right (tooManySites n || notSome k || notSome (length (p .targets))) _ four)
-
-    candidates-few : length (p .candidates) ≤ most-candidates
-    candidates-few =
-        ltb-false most-candidates (length (p .candidates))
-        (neither-right (tooManySites n || notSome k || notSome (length (p .targets)) || notSome (length (p .rotations))) _ five)
-
-    images-few : length (p .images) ≤ most-images
-    images-few =
-        let u : length (p .images) ≡ k * n = eqb-true _ _ (not-false _ (neither-right first-five (unlike (length (p .images)) (k * n)) h)) in
-        let f = few-entries n k some-operations sites-few in
-        omega (arith, u, f)
-
-    fits : tooShortFor e p ≡ false
+    fits : tooShortFor entry p ≡ false
     fits =
         neither
         (neither
         (neither
         (neither
         (neither
-        (two-rooms n _ _ (room n _ _ sites-few (ample .elements)) (room n _ _ sites-few (ample .positions)))
-        (two-rooms k _ _ (room k _ _ (few k some-operations) (ample .rotations)) (room k _ _ (few k some-operations) (ample .translations))))
-        (room (length (p .images)) _ _ images-few (ample .images)))
-        (two-rooms (length (p .targets)) _ _ (room _ _ _ targets-few (ample .targetRotations)) (room _ _ _ targets-few (ample .targetTranslations))))
-        (room (length (p .rotations)) _ _ rotations-few (ample .conventional)))
-        (three-rooms (length (p .candidates)) _ _ _ (room _ _ _ candidates-few (ample .multiplicities)) (room _ _ _ candidates-few (ample .letters)) (room _ _ _ candidates-few (ample .texts)))
+        (two-rooms (length (p .sites)) _ _ (sites (just .elements)) (sites (just .positions)))
+        (two-rooms (length (p .operations)) _ _ (operations (just .rotations)) (operations (just .translations))))
+        (room (length (p .images)) _ (images (just .images))))
+        (two-rooms (length (p .targets)) _ _ (targets (just .targetRotations)) (targets (just .targetTranslations))))
+        (room (length (p .rotations)) _ (rotations (just .conventional))))
+        (three-rooms (length (p .candidates)) _ _ _ (candidates (just .multiplicities)) (candidates (just .letters)) (candidates (just .texts)))
 
-  -- what is too long for such lists is refused with 2
-  pub short-counts : T (tooShortFor e p) → T (badCounts (jobOf p))
-  short-counts s = subst T bad-is (by-cases bad (λ h. not-so (fits h) s))
+    lists-are : HoldsGiven entry exit (givenOf p) → exit ≡ givenOf p
+    unfolding givenOf
+    lists-are h = λ j.
+        record {
+          lattice = h .lattice j;
+          t = h .t j;
+          shift = h .shift j;
+          c = h .c j;
+          elements = exact (λ s. s .element) (p .sites) (pos 0) (entry .elements) (exit .elements) (h .elements) (sites (just .elements)) j;
+          positions =
+              exact (λ s. cellsOf (positionOf (s .position))) (p .sites) zeroCells (entry .positions) (exit .positions)
+              (h .positions) (sites (just .positions)) j;
+          rotations =
+              exact (λ o. rowsOf (o .rotation)) (p .operations) zeroMatrix (entry .rotations) (exit .rotations)
+              (h .rotations) (operations (just .rotations)) j;
+          translations =
+              exact (λ o. cellsOf (positionOf (o .translation))) (p .operations) zeroCells (entry .translations)
+              (exit .translations) (h .translations) (operations (just .translations)) j;
+          images = itself (p .images) 0 (entry .images) (exit .images) (h .images) (images (just .images)) j;
+          targetRotations =
+              exact (λ o. rowsOf (o .rotation)) (p .targets) zeroMatrix (entry .targetRotations) (exit .targetRotations)
+              (h .targetRotations) (targets (just .targetRotations)) j;
+          targetTranslations =
+              exact (λ o. cellsOf (positionOf (o .translation))) (p .targets) zeroCells (entry .targetTranslations)
+              (exit .targetTranslations) (h .targetTranslations) (targets (just .targetTranslations)) j;
+          conventional =
+              exact rowsOf (p .rotations) zeroMatrix (entry .conventional) (exit .conventional) (h .conventional)
+              (rotations (just .conventional)) j;
+          multiplicities =
+              exact (λ w. w .multiplicity) (p .candidates) 0 (entry .multiplicities) (exit .multiplicities)
+              (h .multiplicities) (candidates (just .multiplicities)) j;
+          letters =
+              exact (λ w. w .letter) (p .candidates) 0 (entry .letters) (exit .letters) (h .letters)
+              (candidates (just .letters)) j;
+          texts =
+              exact (λ w. w .text) (p .candidates) zeroText (entry .texts) (exit .texts) (h .texts)
+              (candidates (just .texts)) j;
+          symprec = h .symprec j;
+        }
+
+  abbrev noJob : Condition
+  noJob = job-bytes when NoJob bs
+
+  abbrev noRoom : Condition
+  noRoom = buffer when OfParts bs (λ p. T (tooShortFor entry p))
+
+  not-refused : (n : ℕ) → Returns (readConditions bs entry) (IsJob bs) (refused n) → ⊥
+  unfolding Returns Applies
+  not-refused n r =
+      ⊎-elim
+      (λ a. ⊎-elim (λ x. x) (λ x. just .job .a-job (x .1)) (applies-last [] noJob n a))
+      (λ x. not-so (fits (x .1 .0) (x .1 .1)) (x .1 .2))
+      (applies-last (noJob ∷ []) noRoom n (r .0))
+
+  -- what the call on the lists promises after the reading, the call on bytes does
+  pub read-promise :
+      (r : JobRead) → ReadPromise bs entry exit r → (old new : AnswerCells) (s : Standardized) →
+      ListsPromise exit old new s → BytesPromise bs old new s
+  unfolding Returns
+  read-promise r (accepted p, (ret, held), told) old new s promised =
+      bytes-promise bs p (ret .1) (just .job .a-job) old new s
+      (subst (λ x. ListsPromise x old new s) (lists-are p (ret .1) held) promised)
+  read-promise r (refused n, (ret, zero), told) old new s promised = absurd (not-refused n ret)
+
+-- ---- the shift as a position
+
+-- the same with another shift
+abbrev shifted : Given → Position → Given
+shifted e q =
+    record {
+      lattice = e .lattice;
+      t = e .t;
+      shift = q;
+      c = e .c;
+      elements = e .elements;
+      positions = e .positions;
+      rotations = e .rotations;
+      translations = e .translations;
+      images = e .images;
+      targetRotations = e .targetRotations;
+      targetTranslations = e .targetTranslations;
+      conventional = e .conventional;
+      multiplicities = e .multiplicities;
+      letters = e .letters;
+      texts = e .texts;
+      symprec = e .symprec;
+    }
+
+pub same-shift :
+    (e : Given) (p q : Position) → p ≡ q → (old new : AnswerCells) (s : Standardized) →
+    ListsPromise (shifted e p) old new s → ListsPromise (shifted e q) old new s
+same-shift e p q h old new s = subst (λ x. ListsPromise (shifted e x) old new s) h

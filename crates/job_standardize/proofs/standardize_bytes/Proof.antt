@@ -1,18 +1,28 @@
--- The bytes are read into lists, and the call on these lists answers; else every lent cell is cleared.
-use Rattle.definitions.specs.Lent.{positionFrom}
-use Rattle.definitions.specs.WholeCalls.{Given, AnswerCells}
-use Rattle.job_standardize.specs.Rooms.{blank, blank-ample}
-use Rattle.job_standardize.specs.Read.{read-within, read-promise, not-read}
+-- The counts are legal, and the fronts of local lists have just the room; else every lent cell is cleared.
+use Prim.Native.Nat.{ℕ, _≤_}
+use mathlib.Core.Path.{sym, subst}
+use mathlib.Core.List.{List}
+use native.Mathlib.Omega.{arith}
+use lib.Seq.{length-take-le}
+use Rattle.definitions.specs.declared.JobRead.the-variants.{Refused}
+use Rattle.definitions.specs.WholeCalls.{AnswerCells}
+use Rattle.definitions.specs.Limits.{most-images}
+use Rattle.job_standardize.specs.Counts.{Few}
+use Rattle.job_standardize.specs.Counted.{JobOf, Legal}
+use Rattle.job_standardize.specs.Rooms.{front-length}
 use borrow.Author.Needs.{needs}
 use Rattle.job_standardize.proofs.standardize_bytes.Statement.{statement}
 use Rattle.job_standardize.proofs.standardize_bytes.Tie as tie
 
-abbrev start : tie.After-read-job → tie.Start
-start d = d .before .before .before .before .before .before .before .before .before .before .before .before .before .before .before .before .before .before .before .before .before .before
+abbrev bytes : tie.After-counted → List ℕ
+bytes t = t .before .before .before .before .before .before .before .before .args .bytes .now
 
-abbrev lent : tie.After-read-job → AnswerCells
-lent d =
-    let a = start d .args in
+abbrev found : (t : tie.After-counted) → JobOf (bytes t) (t .counted .given .0 .0) × Few (t .counted .given .0 .0)
+found t = subst (Legal (bytes t)) (t .counted .given .1) (t .before .before .legal-counts .ensures)
+
+abbrev lent : tie.Start → AnswerCells
+lent s =
+    let a = s .args in
     record {
       positions = a .out-positions .now;
       points = a .out-points .now;
@@ -26,61 +36,6 @@ lent d =
       listedBasis = a .listed-basis .now;
       factors = a .factors .now;
     }
-
--- the lists that the bytes were read into
-abbrev read : tie.After-read-job → Given
-read d =
-    record {
-      lattice = d .read-job .last .1 .0;
-      t = d .read-job .last .1 .1 .0;
-      shift = positionFrom (d .read-job .last .1 .1 .1 .0);
-      c = d .read-job .last .1 .1 .1 .1 .0;
-      elements = d .read-job .last .1 .1 .1 .1 .1 .0;
-      positions = d .read-job .last .1 .1 .1 .1 .1 .1 .0;
-      rotations = d .read-job .last .1 .1 .1 .1 .1 .1 .1 .0;
-      translations = d .read-job .last .1 .1 .1 .1 .1 .1 .1 .1 .0;
-      images = d .read-job .last .1 .1 .1 .1 .1 .1 .1 .1 .1 .0;
-      targetRotations = d .read-job .last .1 .1 .1 .1 .1 .1 .1 .1 .1 .1 .0;
-      targetTranslations = d .read-job .last .1 .1 .1 .1 .1 .1 .1 .1 .1 .1 .1 .0;
-      conventional = d .read-job .last .1 .1 .1 .1 .1 .1 .1 .1 .1 .1 .1 .1 .0;
-      multiplicities = d .read-job .last .1 .1 .1 .1 .1 .1 .1 .1 .1 .1 .1 .1 .1 .0;
-      letters = d .read-job .last .1 .1 .1 .1 .1 .1 .1 .1 .1 .1 .1 .1 .1 .1 .0;
-      texts = d .read-job .last .1 .1 .1 .1 .1 .1 .1 .1 .1 .1 .1 .1 .1 .1 .1 .0;
-      symprec = d .read-job .last .1 .1 .1 .1 .1 .1 .1 .1 .1 .1 .1 .1 .1 .1 .1 .1 .0;
-    }
-
-abbrev reading : tie.After-read → tie.After-read-job
-reading t = t .before .before .before .before .before .before .before .before .before .before .before .before .before
-
-standardize-fronts-requires : tie.Need-standardize-fronts-requires
-standardize-fronts-requires c κs =
-    let t = c .before .before .before .before .before .before .before .before .before .before .before .before .before .before .before .before .before .before .before .before .before .before .before in
-    let d = reading t in
-    read-within (start d .args .bytes .now) blank (read d) (d .read-job .result) (d .read-job .ensures) _ (t .read .given .1)
-
-abbrev answered : tie.After-standardize-fronts → AnswerCells
-answered c =
-    record {
-      positions = c .standardize-fronts .last .1 .1 .1 .1 .1 .1 .1 .1 .1 .1 .1 .1 .1 .1 .1 .1 .1 .0;
-      points = c .standardize-fronts .last .1 .1 .1 .1 .1 .1 .1 .1 .1 .1 .1 .1 .1 .1 .1 .1 .1 .1 .0;
-      mapping = c .standardize-fronts .last .1 .1 .1 .1 .1 .1 .1 .1 .1 .1 .1 .1 .1 .1 .1 .1 .1 .1 .1 .0;
-      elements = c .standardize-fronts .last .1 .1 .1 .1 .1 .1 .1 .1 .1 .1 .1 .1 .1 .1 .1 .1 .1 .1 .1 .1 .0;
-      labels = c .standardize-fronts .last .1 .1 .1 .1 .1 .1 .1 .1 .1 .1 .1 .1 .1 .1 .1 .1 .1 .1 .1 .1 .1 .0;
-      multiplicities = c .standardize-fronts .last .1 .1 .1 .1 .1 .1 .1 .1 .1 .1 .1 .1 .1 .1 .1 .1 .1 .1 .1 .1 .1 .1 .0;
-      letters = c .standardize-fronts .last .1 .1 .1 .1 .1 .1 .1 .1 .1 .1 .1 .1 .1 .1 .1 .1 .1 .1 .1 .1 .1 .1 .1 .0;
-      primitive = c .standardize-fronts .last .1 .1 .1 .1 .1 .1 .1 .1 .1 .1 .1 .1 .1 .1 .1 .1 .1 .1 .1 .1 .1 .1 .1 .1 .0;
-      primitiveBasis = c .standardize-fronts .last .1 .1 .1 .1 .1 .1 .1 .1 .1 .1 .1 .1 .1 .1 .1 .1 .1 .1 .1 .1 .1 .1 .1 .1 .1 .0;
-      listedBasis = c .standardize-fronts .last .1 .1 .1 .1 .1 .1 .1 .1 .1 .1 .1 .1 .1 .1 .1 .1 .1 .1 .1 .1 .1 .1 .1 .1 .1 .1 .0;
-      factors = c .standardize-fronts .last .1 .1 .1 .1 .1 .1 .1 .1 .1 .1 .1 .1 .1 .1 .1 .1 .1 .1 .1 .1 .1 .1 .1 .1 .1 .1 .1 .0;
-    }
-
-returns : tie.Need-returns
-returns c =
-    let t = c .before .before .before .before .before .before .before .before .before .before .before .before .before .before .before .before .before .before .before .before .before .before .before .before .before .before .before .before .before .before .before .before .before .before .before .before in
-    let d = reading t in
-    let f = c .before .before .before .before .before .before .before .before .before .before .before .before in
-    read-promise (start d .args .bytes .now) blank (read d) (d .read-job .result) (d .read-job .ensures) _ (t .read .given .1)
-    (lent d) (answered f) (f .standardize-fronts .result) (f .standardize-fronts .ensures)
 
 abbrev cleared : tie.After-clear-answer → AnswerCells
 cleared c =
@@ -98,62 +53,70 @@ cleared c =
       factors = c .clear-answer .last .1 .1 .1 .1 .1 .1 .1 .1 .1 .1 .0;
     }
 
-returns-2 : tie.Need-returns-2
-returns-2 c =
-    let t = c .before .before .before .before .before .before .before .before .before .before .before .before .before .before .before .before .before .before .before .before .before .before .before .before .before .before in
-    let d = t .before .before .before .before .before .before .before .before .before .before .before .before .before in
-    let f = c .before .before .before .before .before .before .before .before .before .before .before .before .before in
-    rw (c .unread-with .ensures)
-    (not-read (start d .args .bytes .now) blank (read d) (d .read-job .result) (d .read-job .ensures) _ (t .read2 .given .1)
-    blank-ample (lent d) (cleared f) (f .clear-answer .ensures))
+slice-aggregate-standardize-counted : tie.Need-slice-aggregate-standardize-counted
+slice-aggregate-standardize-counted c =
+    let h : c .before .before .before .counted .given .0 .0 .images ≤ 1024 = omega (arith, c .before .if1 .taken) in
+    sym (length-take-le _ _ (front-length {A = ℕ} _ 1024 0 h))
+
+standardize-counted-requires : tie.Need-standardize-counted-requires
+standardize-counted-requires c κs =
+    let t = c .before .before .before .before .before .before .before .before .before .before .before .before .before .before in
+    let h : t .counted .given .0 .0 .images ≤ 1024 = omega (arith, c .before .before .before .before .before .before .before .before .before .before .before .before .if1 .taken) in
+    (found t .0, found t .1, length-take-le _ _ (front-length {A = ℕ} _ 1024 0 h))
+
+standardize-counted-requires-2 : tie.Need-standardize-counted-requires-2
+standardize-counted-requires-2 c κs =
+    let f = found (c .before .before .before .before .before .before .before .before .before .before .before .before .before .before) in
+    (f .0, f .1, length-take-le _ _ (front-length {A = ℕ} _ most-images 0 (f .1 .images)))
+
+returns-3 : tie.Need-returns-3
+returns-3 c =
+    let t = c .before .before .before .before .before .before .before .before .before .before .before .before .before .before .before .before .before .before .before .before .before .before .before .before .before in
+    let s = c .before .before .before .before .before .before .before .before .before .before .before .before .before .before .before .before .before .before .before .before .before .before .before .before .before .before .before .before .before .before .before .before .before in
+    let bs = s .args .bytes .now in
+    let d = c .before .before .before .before .before .before .before .before .before .before .before .before .before .before .before .before .before .before .before .before .before .before .before .before .before .before .before in
+    let f = c .before .before .before .before .before .before .before .before .before .before .before .before in
+    let refuses : Legal bs (Refused (t .counted2 .given .0 .0)) = subst (Legal bs) (t .counted2 .given .1) (d .legal-counts .ensures) in
+    refuses (lent s) (cleared f) (f .clear-answer .ensures)
 
 pub standardize-bytes-spec : {M : Type 1} → statement M
 standardize-bytes-spec =
     tie.close
     (tie.spec
-    (λ c. search needs)
-    (λ c. search needs)
-    (λ c. search needs)
-    (λ c. search needs)
-    (λ c. search needs)
-    (λ c. search needs)
-    (λ c. search needs)
-    (λ c. search needs)
-    (λ c. search needs)
-    (λ c. search needs)
-    (λ c. search needs)
     (λ c κs. search needs)
     (λ c. search needs)
-    (λ c. search needs)
-    (λ c. search needs)
-    (λ c. search needs)
-    (λ c. search needs)
-    (λ c. search needs)
-    (λ c. search needs)
-    (λ c. search needs)
-    (λ c. search needs)
-    (λ c. search needs)
-    (λ c. search needs)
-    (λ c. search needs)
-    standardize-fronts-requires
+    (λ c. omega (arith, c .if1 .taken))
+    slice-aggregate-standardize-counted
+    standardize-counted-requires
+    (λ c. c .before .before .before .before .before .before .before .before .before .before .before .before .before .standardize-counted .kept .1 .1 .1 .0)
+    (λ c. c .before .before .before .before .before .before .before .before .before .before .before .before .before .standardize-counted .kept .1 .1 .1 .1 .0)
+    (λ c. c .before .before .before .before .before .before .before .before .before .before .before .before .before .standardize-counted .kept .1 .1 .1 .1 .1 .0)
+    (λ c. c .before .before .before .before .before .before .before .before .before .before .before .before .before .standardize-counted .kept .1 .1 .1 .1 .1 .1 .0)
+    (λ c. c .before .before .before .before .before .before .before .before .before .before .before .before .before .standardize-counted .kept .1 .1 .1 .1 .1 .1 .1 .0)
+    (λ c. c .before .before .before .before .before .before .before .before .before .before .before .before .before .standardize-counted .kept .1 .1 .1 .1 .1 .1 .1 .1 .0)
+    (λ c. c .before .before .before .before .before .before .before .before .before .before .before .before .before .standardize-counted .kept .1 .1 .1 .1 .1 .1 .1 .1 .1 .0)
+    (λ c. c .before .before .before .before .before .before .before .before .before .before .before .before .before .standardize-counted .kept .1 .1 .1 .1 .1 .1 .1 .1 .1 .1 .0)
+    (λ c. c .before .before .before .before .before .before .before .before .before .before .before .before .before .standardize-counted .ensures)
+    (λ c. found (c .before .before) .1 .images)
+    (λ c. sym (length-take-le _ _ (front-length {A = ℕ} _ most-images 0 (found (c .before .before .before) .1 .images))))
+    standardize-counted-requires-2
     (λ c. search needs)
     (λ c κs. search needs)
-    (λ c κs. search needs)
-    (λ c. c .before .before .before .before .before .before .before .before .before .before .before .before .standardize-fronts .kept .1 .1 .1 .1 .1 .1 .1 .1 .1 .1 .1 .1 .1 .1 .1 .1 .1 .0)
-    (λ c. c .before .before .before .before .before .before .before .before .before .before .before .before .standardize-fronts .kept .1 .1 .1 .1 .1 .1 .1 .1 .1 .1 .1 .1 .1 .1 .1 .1 .1 .1 .0)
-    (λ c. c .before .before .before .before .before .before .before .before .before .before .before .before .standardize-fronts .kept .1 .1 .1 .1 .1 .1 .1 .1 .1 .1 .1 .1 .1 .1 .1 .1 .1 .1 .1 .0)
-    (λ c. c .before .before .before .before .before .before .before .before .before .before .before .before .standardize-fronts .kept .1 .1 .1 .1 .1 .1 .1 .1 .1 .1 .1 .1 .1 .1 .1 .1 .1 .1 .1 .1 .0)
-    (λ c. c .before .before .before .before .before .before .before .before .before .before .before .before .standardize-fronts .kept .1 .1 .1 .1 .1 .1 .1 .1 .1 .1 .1 .1 .1 .1 .1 .1 .1 .1 .1 .1 .1 .0)
-    (λ c. c .before .before .before .before .before .before .before .before .before .before .before .before .standardize-fronts .kept .1 .1 .1 .1 .1 .1 .1 .1 .1 .1 .1 .1 .1 .1 .1 .1 .1 .1 .1 .1 .1 .1 .0)
-    (λ c. c .before .before .before .before .before .before .before .before .before .before .before .before .standardize-fronts .kept .1 .1 .1 .1 .1 .1 .1 .1 .1 .1 .1 .1 .1 .1 .1 .1 .1 .1 .1 .1 .1 .1 .1 .0)
-    (λ c. c .before .before .before .before .before .before .before .before .before .before .before .before .standardize-fronts .kept .1 .1 .1 .1 .1 .1 .1 .1 .1 .1 .1 .1 .1 .1 .1 .1 .1 .1 .1 .1 .1 .1 .1 .1 .0)
-    returns
-    (λ c. c .before .before .before .before .before .before .before .before .before .before .before .before .before .clear-answer .kept .0)
-    (λ c. c .before .before .before .before .before .before .before .before .before .before .before .before .before .clear-answer .kept .1 .0)
-    (λ c. c .before .before .before .before .before .before .before .before .before .before .before .before .before .clear-answer .kept .1 .1 .0)
-    (λ c. c .before .before .before .before .before .before .before .before .before .before .before .before .before .clear-answer .kept .1 .1 .1 .0)
-    (λ c. c .before .before .before .before .before .before .before .before .before .before .before .before .before .clear-answer .kept .1 .1 .1 .1 .0)
-    (λ c. c .before .before .before .before .before .before .before .before .before .before .before .before .before .clear-answer .kept .1 .1 .1 .1 .1 .0)
-    (λ c. c .before .before .before .before .before .before .before .before .before .before .before .before .before .clear-answer .kept .1 .1 .1 .1 .1 .1 .0)
-    (λ c. c .before .before .before .before .before .before .before .before .before .before .before .before .before .clear-answer .kept .1 .1 .1 .1 .1 .1 .1 .0)
-    returns-2)
+    (λ c. c .before .before .before .before .before .before .before .before .before .before .before .before .before .standardize-counted2 .kept .1 .1 .1 .0)
+    (λ c. c .before .before .before .before .before .before .before .before .before .before .before .before .before .standardize-counted2 .kept .1 .1 .1 .1 .0)
+    (λ c. c .before .before .before .before .before .before .before .before .before .before .before .before .before .standardize-counted2 .kept .1 .1 .1 .1 .1 .0)
+    (λ c. c .before .before .before .before .before .before .before .before .before .before .before .before .before .standardize-counted2 .kept .1 .1 .1 .1 .1 .1 .0)
+    (λ c. c .before .before .before .before .before .before .before .before .before .before .before .before .before .standardize-counted2 .kept .1 .1 .1 .1 .1 .1 .1 .0)
+    (λ c. c .before .before .before .before .before .before .before .before .before .before .before .before .before .standardize-counted2 .kept .1 .1 .1 .1 .1 .1 .1 .1 .0)
+    (λ c. c .before .before .before .before .before .before .before .before .before .before .before .before .before .standardize-counted2 .kept .1 .1 .1 .1 .1 .1 .1 .1 .1 .0)
+    (λ c. c .before .before .before .before .before .before .before .before .before .before .before .before .before .standardize-counted2 .kept .1 .1 .1 .1 .1 .1 .1 .1 .1 .1 .0)
+    (λ c. c .before .before .before .before .before .before .before .before .before .before .before .before .before .standardize-counted2 .ensures)
+    (λ c. c .before .before .before .before .before .before .before .before .before .before .before .before .clear-answer .kept .0)
+    (λ c. c .before .before .before .before .before .before .before .before .before .before .before .before .clear-answer .kept .1 .0)
+    (λ c. c .before .before .before .before .before .before .before .before .before .before .before .before .clear-answer .kept .1 .1 .0)
+    (λ c. c .before .before .before .before .before .before .before .before .before .before .before .before .clear-answer .kept .1 .1 .1 .0)
+    (λ c. c .before .before .before .before .before .before .before .before .before .before .before .before .clear-answer .kept .1 .1 .1 .1 .0)
+    (λ c. c .before .before .before .before .before .before .before .before .before .before .before .before .clear-answer .kept .1 .1 .1 .1 .1 .0)
+    (λ c. c .before .before .before .before .before .before .before .before .before .before .before .before .clear-answer .kept .1 .1 .1 .1 .1 .1 .0)
+    (λ c. c .before .before .before .before .before .before .before .before .before .before .before .before .clear-answer .kept .1 .1 .1 .1 .1 .1 .1 .0)
+    returns-3)
