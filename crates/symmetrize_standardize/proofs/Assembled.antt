@@ -74,7 +74,7 @@ finished-by i k e sites count images mapping ps basis symprec candidates letters
 
 module _ (x : Given) (rooms : Rooms) (p : Passed (conditions x rooms) 12) where
   pub spaces-held :
-      (before after : SpaceCells) (v : Verdict) → spaceRooms before ≡ tableRooms → PrepareAllPromise (x .texts) before after v →
+      (before after : SpaceCells) (v : Verdict) → spaceRooms before ≡ tableRooms x → PrepareAllPromise (x .texts) before after v →
       (ss : List Space) × AreSpaces (x .texts) ss × (fronts (length (x .texts)) after ≡ tablesOf ss)
   spaces-held before after v room h =
       let cs = prepareAllConditions (x .texts) (spaceRooms before) in
@@ -104,8 +104,8 @@ module _ (x : Given) (rooms : Rooms) (p : Passed (conditions x rooms) 12) where
 -- ---- the verdicts of the sub-calls are right
 
 pub right-of :
-    (x : Given) (before after : SpaceCells) (v₁ : Verdict) → spaceRooms before ≡ tableRooms → PrepareAllPromise (x .texts) before after v₁ →
-    (old new : List ℕ) (v₂ : Verdict) → length old ≡ alignedRoom →
+    (x : Given) (before after : SpaceCells) (v₁ : Verdict) → spaceRooms before ≡ tableRooms x → PrepareAllPromise (x .texts) before after v₁ →
+    (old new : List ℕ) (v₂ : Verdict) → length old ≡ alignedRoom x →
     AlignPromise (x .t) (x .rotations) (x .images) (length (x .positions)) (x .targetRotations) old new v₂ →
     (basis primitive listed : RealMatrix) (v₃ : Verdict) →
     LatticePromise (x .lattice) (x .t) (x .c) (x .conventional) basis primitive listed v₃ →
@@ -296,19 +296,21 @@ module _ (x : Given) (e z : AnswerCells) (shape : Three (x .c)) (p : Passed (con
   -- ---- by the sub-calls' promises
 
   pub answered :
-      (before after : SpaceCells) (v₁ : Verdict) → spaceRooms before ≡ tableRooms → PrepareAllPromise (x .texts) before after v₁ →
-      (old new : List ℕ) (v₂ : Verdict) → length old ≡ alignedRoom →
+      (before after : SpaceCells) (v₁ : Verdict) → spaceRooms before ≡ tableRooms x → PrepareAllPromise (x .texts) before after v₁ →
+      (old new : List ℕ) (v₂ : Verdict) → length old ≡ alignedRoom x →
       AlignPromise (x .t) (x .rotations) (x .images) (length (x .positions)) (x .targetRotations) old new v₂ →
       (basis : RealMatrix) (v₃ : Verdict) → LatticePromise (x .lattice) (x .t) (x .c) (x .conventional) basis (z .primitiveBasis) (z .listedBasis) v₃ →
       (v₄ : Verdict) → FactorsPromise (x .c) (z .factors) v₄ →
-      CellListed (x .t) (x .shift) (x .c) (x .elements) (x .positions) (x .targetRotations) (x .targetTranslations)
-      (take (length (x .targetRotations) * length (x .positions)) new) (e .primitive) (z .primitive) (listingCells e) (listingCells z) →
+      (is : List ℕ) → is ≡ take (length (x .targetRotations) * length (x .positions)) new →
+      (lent : SpaceCells) → lent ≡ fronts (length (x .texts)) after →
+      CellListed (x .t) (x .shift) (x .c) (x .elements) (x .positions) (x .targetRotations) (x .targetTranslations) is
+      (e .primitive) (z .primitive) (listingCells e) (listingCells z) →
       (r : Standardized) →
       Finished (length (x .positions) * copies (x .c))
       (record {
         sites = length (x .positions);
         count = length (x .targetRotations);
-        images = take (length (x .targetRotations) * length (x .positions)) new;
+        images = is;
         mapping = take (length (x .positions) * copies (x .c)) (z .mapping);
       })
       (record {
@@ -317,23 +319,23 @@ module _ (x : Given) (e z : AnswerCells) (shape : Three (x .c)) (p : Passed (con
         symprec = x .symprec;
         candidates = x .multiplicities;
         letters = x .letters;
-        spaces = fronts (length (x .texts)) after;
+        spaces = lent;
       })
       (letterCells e) (letterCells z) r →
       Uncleared x e z r
-  answered before after v₁ rooms₁ prepared old new v₂ room₂ alignment basis v₃ lattice v₄ factors cell r (whole, orb, told) =
+  answered before after v₁ rooms₁ prepared old new v₂ room₂ alignment basis v₃ lattice v₄ factors is is-front lent lent-fronts cell r (whole, orb, told) =
       let rooms = roomsOf e in
       let roomy = known-roomy x rooms p in
-      let same-images : take (k * n) new ≡ images = images-of x rooms p old new v₂ room₂ alignment in
+      let same-images : is ≡ images = is-front ∙ images-of x rooms p old new v₂ room₂ alignment in
       let l =
       listed
-      (subst (λ is. CellListed (x .t) (x .shift) (x .c) (x .elements) (x .positions) (x .targetRotations) (x .targetTranslations) is
+      (subst (λ l. CellListed (x .t) (x .shift) (x .c) (x .elements) (x .positions) (x .targetRotations) (x .targetTranslations) l
       (e .primitive) (z .primitive) (listingCells e) (listingCells z)) same-images cell) in
       let (ss, are, tables) = spaces-held x rooms p before after v₁ rooms₁ prepared in
       let (pb, lb) = bases-held x rooms p basis (z .primitiveBasis) (z .listedBasis) v₃ lattice in
       let labelled =
-      subst (λ is. LabelPromise (labelling is (siteMapping n m)) (labelCells (letterCells e)) (labelCells (letterCells z)) (orb .labelled)) same-images
-      (subst (λ ms. LabelPromise (labelling (take (k * n) new) ms) (labelCells (letterCells e)) (labelCells (letterCells z)) (orb .labelled)) (mapping-front l)
+      subst (λ l. LabelPromise (labelling l (siteMapping n m)) (labelCells (letterCells e)) (labelCells (letterCells z)) (orb .labelled)) same-images
+      (subst (λ ms. LabelPromise (labelling is ms) (labelCells (letterCells e)) (labelCells (letterCells z)) (orb .labelled)) (mapping-front l)
       (orb .labels)) in
       let (ls, labels, long, lh, mh) =
       labels-held x rooms p (labelCells (letterCells e)) (labelCells (letterCells z)) (orb .labelled) (roomy .labels) (roomy .multiplicities) labelled in
@@ -341,7 +343,7 @@ module _ (x : Given) (e z : AnswerCells) (shape : Three (x .c)) (p : Passed (con
       let sited : length (take (n * m) (z .mapping)) ≡ n * m = ap length (mapping-front l) ∙ length-mapping n m in
       concluded l ss are ls labels long lh mh pb lb fs whole
       (subst (λ a. Assigned a (e .letters) (z .letters) whole)
-      (letter-arguments l ss are ls labels long lh mh pb lb fs (fronts (length (x .texts)) after) tables (length (take (n * m) (z .mapping))) sited)
+      (letter-arguments l ss are ls labels long lh mh pb lb fs lent (lent-fronts ∙ tables) (length (take (n * m) (z .mapping))) sited)
       (orb .letters))
       r told
     where

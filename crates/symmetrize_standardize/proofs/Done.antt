@@ -67,7 +67,7 @@ module _ (x : Given) (rooms : Rooms) (p : Passed (conditions x rooms) 12) where
   as-many = ap length (sym aligned-is) ∙ length-map (x .targetRotations) _
 
   pub images-of :
-      (old new : List ℕ) (v : Verdict) → length old ≡ alignedRoom →
+      (old new : List ℕ) (v : Verdict) → length old ≡ alignedRoom x →
       AlignPromise (x .t) (x .rotations) (x .images) (length (x .positions)) (x .targetRotations) old new v →
       take (length (x .targetRotations) * length (x .positions)) new ≡ each (λ q. q) (aligned (jobFrom x))
   images-of old new v room h =

@@ -5,6 +5,7 @@ use mathlib.Core.Bool.{Bool, true, false, _||_, cond}
 use mathlib.Core.List.{List, [], _∷_}
 use mathlib.Core.Logic.{_⊎_, inl, inr, ⊎-elim}
 use native.Mathlib.Omega.{arith}
+use native.Mathlib.Nat.{le-refl}
 use lib.ListN.{length}
 use lib.Dec.{T, ltb}
 use borrow.Author.Tests.{ltb-true, ltb-false, le-ltb}
@@ -13,7 +14,7 @@ use Rattle.definitions.specs.declared.Verdict.the-variants.{Accepted, Refused}
 use Rattle.definitions.specs.Lists.{any, Some}
 use Rattle.definitions.specs.Refusal.{Condition, Applies, Checked, precedence, counts, matrix-entry, float-range, site-image}
 use Rattle.definitions.specs.Refusal.{coordinates, determinant, diagonalisation, listed-sites, buffer, target-rotation, lattice}
-use Rattle.definitions.specs.Limits.{notUnimodular, badCopies, copies, tooManyListed, shorterThan}
+use Rattle.definitions.specs.Limits.{tooManySites, notSome, tooManyCandidates, notUnimodular, badCopies, copies, tooManyListed, shorterThan}
 use Rattle.definitions.specs.Lent.{badImages}
 use Rattle.definitions.specs.Snf.{Leaves}
 use Rattle.definitions.specs.Symmetrization.{latticeFails, conventionalBasis}
@@ -27,7 +28,7 @@ use Rattle.laws.specs.Limits.{few-entries}
 use Rattle.laws.specs.Order.{numbered}
 use Rattle.laws.specs.Verdicts.{HoldsAt, Passed, found-at, refuse, verdictOf}
 use Rattle.symmetrize_standardize.specs.Stages.{refusedWith, listCounts, listEntries, listFloats, givenVerdict}
-use Rattle.symmetrize_standardize.specs.Stages.{Told, lesser, leastRoom, workVerdict, wholeVerdict}
+use Rattle.symmetrize_standardize.specs.Stages.{candidatesRoom, imagesRoom, Told, lesser, leastRoom, workVerdict, wholeVerdict}
 use Rattle.symmetrize_standardize.proofs.General.{Until, rung, until-then, told-applies, told-first}
 use Rattle.symmetrize_standardize.proofs.Facts.{Like, like, site-count, of-operations, of-targets, of-texts}
 use Rattle.symmetrize_standardize.proofs.Facts.{same-counts, same-entries, same-floats, same-images, Within, within}
@@ -74,23 +75,47 @@ given-few x e = ltb-false _ _ (within-limits x nowhere (subst (Until (conditions
 -- ---- the sub-calls
 
 -- room for every candidate in five tables, and for every permutation
-abbrev pub tableRooms : List ℕ
-tableRooms = 64 ∷ 64 ∷ 64 ∷ 64 ∷ 64 ∷ []
+abbrev pub tableRooms : Given → List ℕ
+tableRooms x =
+    let r = candidatesRoom (length (x .texts)) in
+    r ∷ r ∷ r ∷ r ∷ r ∷ []
 
-abbrev pub alignedRoom : ℕ
-alignedRoom = 24576
+abbrev pub alignedRoom : Given → ℕ
+alignedRoom x = imagesRoom (length (x .positions)) (length (x .targetRotations))
+
+-- which is all that there are, within the limits
+pub aligned-room : (x : Given) → Within x → alignedRoom x ≡ length (x .targetRotations) * length (x .positions)
+aligned-room x w = λ i. cond (w .sites i) 0 (cond (w .targets i) 0 (length (x .targetRotations) * length (x .positions)))
+
+pub few-images : (n g : ℕ) → imagesRoom n g ≤ 24576
+few-images n g = by (tooManySites n) refl (notSome g) refl
+  where
+    by : (a : Bool) → tooManySites n ≡ a → (b : Bool) → notSome g ≡ b → cond a 0 (cond b 0 (g * n)) ≤ 24576
+    by true e b f = let h : 0 ≤ 24576 = omega arith in h
+    by false e true f = let h : 0 ≤ 24576 = omega arith in h
+    by false e false f = few-entries n g f (ltb-false _ _ e)
+
+pub few-candidates : (w : ℕ) → candidatesRoom w ≤ 64
+few-candidates w = by (tooManyCandidates w) refl
+  where
+    by : (b : Bool) → tooManyCandidates w ≡ b → cond b 0 w ≤ 64
+    by true e = let h : 0 ≤ 64 = omega arith in h
+    by false e = ltb-false _ _ e
+
+pub candidates-room : (x : Given) → Within x → candidatesRoom (length (x .texts)) ≡ length (x .texts)
+candidates-room x w = λ i. cond (w .candidates i) 0 (length (x .texts))
 
 -- their verdicts are right
 pub record Right (x : Given) (s : Told) : Type 0 where
-  pub prepared : Checked (prepareAllConditions (x .texts) tableRooms) (s .prepared)
+  pub prepared : Checked (prepareAllConditions (x .texts) (tableRooms x)) (s .prepared)
   pub factors : Checked (centringConditions (x .c)) (s .factors)
   pub aligned :
-      Checked (alignConditions (x .t) (x .rotations) (x .images) (length (x .positions)) (x .targetRotations) alignedRoom) (s .aligned)
+      Checked (alignConditions (x .t) (x .rotations) (x .images) (length (x .positions)) (x .targetRotations) (alignedRoom x)) (s .aligned)
   pub lattice : Checked (latticeConditions (x .lattice) (x .t) (x .c) (x .conventional)) (s .lattice)
 
 -- what they are past
 module _ (x : Given) (w : Within x) where
-  pub prepare-counts : Passed (prepareAllConditions (x .texts) tableRooms) 1
+  pub prepare-counts : Passed (prepareAllConditions (x .texts) (tableRooms x)) 1
   unfolding Passed
   prepare-counts = (not-so (w .candidates), tt)
 
@@ -99,7 +124,7 @@ module _ (x : Given) (w : Within x) where
   centring-entries = (not-so (w .c-entries), tt)
 
   pub align-limits :
-      Passed (alignConditions (x .t) (x .rotations) (x .images) (length (x .positions)) (x .targetRotations) alignedRoom) 2
+      Passed (alignConditions (x .t) (x .rotations) (x .images) (length (x .positions)) (x .targetRotations) (alignedRoom x)) 2
   unfolding Passed
   align-limits = (
     not-so (neither (neither (neither (w .sites) (w .operations)) (w .images)) (w .targets)),
@@ -109,12 +134,13 @@ module _ (x : Given) (w : Within x) where
   module _ (unimodular : notUnimodular (x .t) ≡ false) where
     pub align-passed :
         badImages (length (x .positions)) (length (x .rotations)) (x .images) ≡ false →
-        Passed (alignConditions (x .t) (x .rotations) (x .images) (length (x .positions)) (x .targetRotations) alignedRoom) 5
+        Passed (alignConditions (x .t) (x .rotations) (x .images) (length (x .positions)) (x .targetRotations) (alignedRoom x)) 5
     unfolding Passed
     align-passed permuted =
         let q = align-limits in
-        let fits = few-entries (length (x .positions)) (length (x .targetRotations)) (w .targets) (ltb-false _ _ (w .sites)) in
-        (q .0, (q .1 .0, (not-so permuted, (not-so unimodular, (not-so (le-ltb _ _ fits), tt)))))
+        let entries = length (x .targetRotations) * length (x .positions) in
+        let fits : shorterThan entries (alignedRoom x) ≡ false = ap (shorterThan entries) (aligned-room x w) ∙ le-ltb entries entries (le-refl entries) in
+        (q .0, (q .1 .0, (not-so permuted, (not-so unimodular, (not-so fits, tt)))))
 
     pub lattice-passed : badCopies (x .c) ≡ false → Passed (latticeConditions (x .lattice) (x .t) (x .c) (x .conventional)) 4
     unfolding Passed
@@ -133,24 +159,24 @@ module _ (x : Given) (s : Told) (r : Right x s) (w : Within x) where
   unfolding Applies
   five h =
       ⊎-elim (λ b. b) (λ n. absurd n)
-      (told-applies (alignConditions (x .t) (x .rotations) (x .images) (length (x .positions)) (x .targetRotations) alignedRoom) (s .aligned) (r .aligned) site-image h)
+      (told-applies (alignConditions (x .t) (x .rotations) (x .images) (length (x .positions)) (x .targetRotations) (alignedRoom x)) (s .aligned) (r .aligned) site-image h)
 
   pub from-five : T (badImages (length (x .positions)) (length (x .rotations)) (x .images)) → T (refusedWith site-image (s .aligned))
   unfolding HoldsAt verdictOf found-at numbered any precedence
   from-five h =
-      let cs = alignConditions (x .t) (x .rotations) (x .images) (length (x .positions)) (x .targetRotations) alignedRoom in
+      let cs = alignConditions (x .t) (x .rotations) (x .images) (length (x .positions)) (x .targetRotations) (alignedRoom x) in
       told-first cs tt (s .aligned) (r .aligned) site-image
       (refuse cs 2 (align-limits x w) h (Refused site-image) refl)
 
   pub six : T (refusedWith coordinates (s .prepared)) → BadCoordinates (x .texts)
   unfolding Applies
-  six h = ⊎-elim (λ b. b) (λ n. absurd n) (told-applies (prepareAllConditions (x .texts) tableRooms) (s .prepared) (r .prepared) coordinates h)
+  six h = ⊎-elim (λ b. b) (λ n. absurd n) (told-applies (prepareAllConditions (x .texts) (tableRooms x)) (s .prepared) (r .prepared) coordinates h)
 
   pub from-six : BadCoordinates (x .texts) → T (refusedWith coordinates (s .prepared))
   unfolding HoldsAt verdictOf found-at numbered any precedence
   from-six b =
-      told-first (prepareAllConditions (x .texts) tableRooms) tt (s .prepared) (r .prepared) coordinates
-      (refuse (prepareAllConditions (x .texts) tableRooms) 1 (prepare-counts x w) b (Refused coordinates) refl)
+      told-first (prepareAllConditions (x .texts) (tableRooms x)) tt (s .prepared) (r .prepared) coordinates
+      (refuse (prepareAllConditions (x .texts) (tableRooms x)) 1 (prepare-counts x w) b (Refused coordinates) refl)
 
   pub eight : T (refusedWith diagonalisation (s .factors) || refusedWith diagonalisation (s .prepared)) → Leaves (x .c) ⊎ Some TextLeaves (x .texts)
   unfolding Applies
@@ -160,7 +186,7 @@ module _ (x : Given) (s : Told) (r : Right x s) (w : Within x) where
       of-c h = ⊎-elim (λ b. b) (λ n. absurd n) (told-applies (centringConditions (x .c)) (s .factors) (r .factors) diagonalisation h)
 
       of-texts′ : T (refusedWith diagonalisation (s .prepared)) → Some TextLeaves (x .texts)
-      of-texts′ h = ⊎-elim (λ b. b) (λ n. absurd n) (told-applies (prepareAllConditions (x .texts) tableRooms) (s .prepared) (r .prepared) diagonalisation h)
+      of-texts′ h = ⊎-elim (λ b. b) (λ n. absurd n) (told-applies (prepareAllConditions (x .texts) (tableRooms x)) (s .prepared) (r .prepared) diagonalisation h)
 
       by : (b : Bool) → refusedWith diagonalisation (s .factors) ≡ b → T (b || refusedWith diagonalisation (s .prepared)) → Leaves (x .c) ⊎ Some TextLeaves (x .texts)
       by true e h = inl (of-c (so e))
@@ -182,21 +208,21 @@ module _ (x : Given) (s : Told) (r : Right x s) (w : Within x) where
 
       of-texts′ : Some TextLeaves (x .texts) → T (refusedWith diagonalisation (s .prepared))
       of-texts′ l =
-          told-first (prepareAllConditions (x .texts) tableRooms) tt (s .prepared) (r .prepared) diagonalisation
-          (refuse (prepareAllConditions (x .texts) tableRooms) 2 (prepare-counts x w .0, (readable, tt)) l (Refused diagonalisation) refl)
+          told-first (prepareAllConditions (x .texts) (tableRooms x)) tt (s .prepared) (r .prepared) diagonalisation
+          (refuse (prepareAllConditions (x .texts) (tableRooms x)) 2 (prepare-counts x w .0, (readable, tt)) l (Refused diagonalisation) refl)
 
   pub eleven : T (refusedWith target-rotation (s .aligned)) → T (rotationAbsent (x .t) (x .rotations) (x .targetRotations))
   unfolding Applies
   eleven h =
       ⊎-elim (λ b. b) (λ n. absurd n)
-      (told-applies (alignConditions (x .t) (x .rotations) (x .images) (length (x .positions)) (x .targetRotations) alignedRoom) (s .aligned) (r .aligned) target-rotation h)
+      (told-applies (alignConditions (x .t) (x .rotations) (x .images) (length (x .positions)) (x .targetRotations) (alignedRoom x)) (s .aligned) (r .aligned) target-rotation h)
 
   pub from-eleven :
       badImages (length (x .positions)) (length (x .rotations)) (x .images) ≡ false → notUnimodular (x .t) ≡ false →
       T (rotationAbsent (x .t) (x .rotations) (x .targetRotations)) → T (refusedWith target-rotation (s .aligned))
   unfolding HoldsAt verdictOf found-at numbered any precedence
   from-eleven permuted unimodular h =
-      let cs = alignConditions (x .t) (x .rotations) (x .images) (length (x .positions)) (x .targetRotations) alignedRoom in
+      let cs = alignConditions (x .t) (x .rotations) (x .images) (length (x .positions)) (x .targetRotations) (alignedRoom x) in
       told-first cs tt (s .aligned) (r .aligned) target-rotation
       (refuse cs 5 (align-passed x w unimodular permuted) h (Refused target-rotation) refl)
 

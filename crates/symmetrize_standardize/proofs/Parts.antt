@@ -1,12 +1,12 @@
 -- Lists laid one behind the other, and taken apart again; what is written to the front of a lent list, and read there.
 use Prim.Native.Nat.{ℕ, suc, _+_, _-_, _*_, _≤_}
-use mathlib.Core.Path.{_≡_, refl, sym, ap, _∙_}
+use mathlib.Core.Path.{_≡_, refl, sym, ap, _∙_, subst}
 use mathlib.Core.Bool.{Bool, false}
 use mathlib.Core.List.{List, [], _∷_, _++_, map, append-assoc, List·Memᴰ, List·Memᴰ·head, List·Memᴰ·tail}
 use native.Mathlib.Omega.{arith}
 use native.Mathlib.Nat.{suc-mul, mul-le-mul}
-use lib.ListN.{length, take, replicate, length-append, length-map}
-use lib.Seq.{take-at, drop-at}
+use lib.ListN.{length, take, drop, replicate, length-append, length-map}
+use lib.Seq.{take-at, take-all, drop-at, length-front}
 use mir.Syntax.{w64}
 use mir.Val.{Fits}
 use Rattle.definitions.specs.Lists.{any, each, Each, upFrom}
@@ -60,6 +60,15 @@ length-parts n (p ∷ ps) h =
 pub front-of : {A : Type 0} (z : A) (a l : List A) (room n : ℕ) → l ≡ padded z a room → length a ≡ n → take n l ≡ a
 front-of z a l room n e h = ap (take n) e ∙ take-at a (replicate (room - length a) z) n h
 
+-- a front that was lent is back: what is read there, and that there is room for it
+pub front-back : {A : Type 0} (i k : ℕ) (ys zs : List A) → i ≡ k → length ys ≡ i → take i (ys ++ zs) ≡ take k ys
+front-back i k ys zs e h =
+    let l : length ys ≤ k = omega arith in
+    take-at ys zs i h ∙ sym (take-all k ys l)
+
+pub front-room : {A : Type 0} (i : ℕ) (d ys : List A) → i ≤ length d → length ys ≡ length (take i d) → i ≤ length (ys ++ drop i d)
+front-room i d ys h e = subst (λ n. i ≤ n) (sym (length-front d ys i e)) h
+
 -- positions that were held as cells
 pub cells-back : (ps : List Position) → map positionFrom (map cellsOf ps) ≡ ps
 cells-back [] = refl
@@ -68,16 +77,13 @@ cells-back (p ∷ ps) = ap (λ l. p ∷ l) (cells-back ps)
 pub length-cells : (ps : List Position) → length (map cellsOf ps) ≡ length ps
 length-cells ps = length-map ps cellsOf
 
--- what there is room for, in a list that kept its length
 -- numbers of entries are words
 pub listed-word : (n m : ℕ) → n ≤ 256 → m ≤ 64 → Fits w64 (n * m)
 listed-word n m p q = omega (arith, mul-le-mul p q)
 
-pub entries-word : (n : ℕ) → n ≤ 24576 → Fits w64 n
-entries-word n p = omega arith
-
 pub fits-kept : {a b c d : ℕ} → a ≡ b → b ≤ c → d ≡ c → a ≤ d
 fits-kept {a} {b} {c} {d} e h k = omega arith
 
+-- what there is room for, in a list that kept its length
 pub still-room : {a b c : ℕ} → a ≤ c → b ≡ c → a ≤ b
 still-room {a} {b} {c} h k = omega arith

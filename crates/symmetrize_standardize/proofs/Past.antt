@@ -5,6 +5,7 @@ use mathlib.Core.Bool.{Bool, false, not, _||_}
 use mathlib.Core.List.{List, [], _∷_, map}
 use mathlib.Core.Logic.{_⊎_, inl, inr, ⊎-elim}
 use native.Mathlib.Omega.{arith}
+use native.Mathlib.Nat.{le-refl}
 use lib.ListN.{length, replicate, length-replicate}
 use lib.Dec.{T, ltb, eqb}
 use borrow.Author.Tests.{ltb-false, le-ltb, eq-eqb, eqb-false}
@@ -24,15 +25,14 @@ use Rattle.definitions.specs.Standardize.{Rooms, siteCount, listedCount, listed
 use Rattle.definitions.specs.WholeCalls.{Given, jobFrom}
 use Rattle.laws.specs.Tests.{so, not-so, off, neither, neither-left, neither-right, true-of}
 use Rattle.laws.specs.Lists.{all-head, all-tail, all-cons, none-head, none-tail, length-each, length-upFrom}
-use Rattle.laws.specs.Limits.{few-entries}
 use Rattle.laws.specs.Order.{numbered}
 use Rattle.laws.specs.Verdicts.{Passed, found-none, accept, verdictOf}
 use Rattle.symmetrize_standardize_laws.specs.Found.{aligned-all, mapping-pass}
-use Rattle.symmetrize_standardize.specs.Stages.{Roomy}
+use Rattle.symmetrize_standardize.specs.Stages.{candidatesRoom, Roomy}
 use Rattle.symmetrize_standardize.proofs.General.{told-accepted}
 use Rattle.symmetrize_standardize.proofs.Parts.{none-pass}
 use Rattle.symmetrize_standardize.proofs.Facts.{Like, Within, site-count, of-texts}
-use Rattle.symmetrize_standardize.proofs.Ladder.{conditions, like-lists, within-limits, permutations, tableRooms, alignedRoom}
+use Rattle.symmetrize_standardize.proofs.Ladder.{conditions, like-lists, within-limits, permutations, tableRooms, alignedRoom, aligned-room, candidates-room}
 use Rattle.symmetrize_standardize.proofs.Ladder.{align-passed, lattice-passed, listed-is, absent-is}
 
 -- ---- what is known
@@ -89,11 +89,11 @@ module _ (x : Given) (rooms : Rooms) (p : Passed (conditions x rooms) 12) where
   pub known-sites : length (x .positions) ≤ 256
   known-sites = ltb-false _ _ (known-within .sites)
 
-  pub known-texts : length (x .texts) ≤ 64
-  known-texts = ltb-false _ _ (known-within .candidates)
+  pub known-entries : alignedRoom x ≡ length (x .targetRotations) * length (x .positions)
+  known-entries = aligned-room x known-within
 
-  pub known-images : length (x .targetRotations) * length (x .positions) ≤ 24576
-  known-images = few-entries (length (x .positions)) (length (x .targetRotations)) (known-within .targets) known-sites
+  pub known-candidates : candidatesRoom (length (x .texts)) ≡ length (x .texts)
+  known-candidates = candidates-room x known-within
 
   readable : BadCoordinates (x .texts) → ⊥
   unfolding Passed
@@ -185,14 +185,15 @@ module _ (x : Given) (rooms : Rooms) (p : Passed (conditions x rooms) 12) where
 
   -- ---- the sub-calls accept
 
-  pub prepared-accepts : (v : Verdict) → Checked (prepareAllConditions (x .texts) tableRooms) v → v ≡ Accepted
+  pub prepared-accepts : (v : Verdict) → Checked (prepareAllConditions (x .texts) (tableRooms x)) v → v ≡ Accepted
   unfolding Passed numbered any precedence verdictOf found-none Each
   prepared-accepts v e =
-      let cs = prepareAllConditions (x .texts) tableRooms in
-      let t = shorterThan (length (x .texts)) in
-      let few = known-within .candidates in
-      let roomy : any t tableRooms ≡ false =
-      none-pass t tableRooms (few, (few, (few, (few, (few, tt))))) in
+      let cs = prepareAllConditions (x .texts) (tableRooms x) in
+      let w = length (x .texts) in
+      let t = shorterThan w in
+      let few : t (candidatesRoom w) ≡ false = ap t known-candidates ∙ le-ltb w w (le-refl w) in
+      let roomy : any t (tableRooms x) ≡ false =
+      none-pass t (tableRooms x) (few, (few, (few, (few, (few, tt))))) in
       told-accepted cs tt v e
       (accept cs (not-so (known-within .candidates), (readable, ((λ l. kept (inr l)), (not-so roomy, tt)))) refl)
 
@@ -210,11 +211,11 @@ module _ (x : Given) (rooms : Rooms) (p : Passed (conditions x rooms) 12) where
       (accept cs (not-so (known-within .c-entries), (not-so copied, ((λ l. kept (inl l)), (not-so (le-ltb _ _ known-copies), tt)))) refl)
 
   pub align-accepts :
-      (v : Verdict) → Checked (alignConditions (x .t) (x .rotations) (x .images) (length (x .positions)) (x .targetRotations) alignedRoom) v →
+      (v : Verdict) → Checked (alignConditions (x .t) (x .rotations) (x .images) (length (x .positions)) (x .targetRotations) (alignedRoom x)) v →
       v ≡ Accepted
   unfolding Passed numbered any precedence verdictOf found-none
   align-accepts v e =
-      let cs = alignConditions (x .t) (x .rotations) (x .images) (length (x .positions)) (x .targetRotations) alignedRoom in
+      let cs = alignConditions (x .t) (x .rotations) (x .images) (length (x .positions)) (x .targetRotations) (alignedRoom x) in
       let q = align-passed x known-within unimodular given-permutations in
       let present : T (rotationAbsent (x .t) (x .rotations) (x .targetRotations)) → ⊥ =
       λ h. p .1 .1 .1 .1 .1 .1 .1 .1 .1 .1 .0 (subst T (sym (absent-is x known-like)) h) in

@@ -75,6 +75,16 @@ givenVerdict x =
     (cond (listEntries x) (Refused matrix-entry)
     (cond (listFloats x) (Refused float-range) Accepted)))
 
+-- ---- the lists that are lent to sub-calls, of no entries past the limits, where 2 refuses
+
+-- for so many candidates
+abbrev pub candidatesRoom : ℕ → ℕ
+candidatesRoom w = cond (tooManyCandidates w) 0 w
+
+-- for the images of n sites under so many targets
+abbrev pub imagesRoom : ℕ → ℕ → ℕ
+imagesRoom n g = cond (tooManySites n) 0 (cond (notSome g) 0 (g * n))
+
 -- ---- 5 to 12, by the verdicts of the sub-calls
 
 -- of the candidates that are prepared, of C's invariant factors, of the aligned permutations and of the lattice

@@ -253,10 +253,26 @@ fn answer(
     let mut ds = [NO_MATRIX; MOST_CANDIDATES];
     let mut ls = [NO_MATRIX; MOST_CANDIDATES];
     let mut rs = [NO_MATRIX; MOST_CANDIDATES];
-    let prepared = prepare_all(texts, &mut matrices, &mut shifts, &mut ds, &mut ls, &mut rs);
+    let w = verdicts::candidates_room(texts.len());
+    let prepared = prepare_all(
+        texts,
+        &mut matrices[..w],
+        &mut shifts[..w],
+        &mut ds[..w],
+        &mut ls[..w],
+        &mut rs[..w],
+    );
     let mut aligned = [0u8; MOST_IMAGES];
     let n = positions.len();
-    let found = align_permutations(t, rotations, images, n, target_rotations, &mut aligned);
+    let entries = verdicts::images_room(n, target_rotations.len());
+    let found = align_permutations(
+        t,
+        rotations,
+        images,
+        n,
+        target_rotations,
+        &mut aligned[..entries],
+    );
     let mut new = NO_BASIS;
     let deformed = symmetrize_lattice(
         lattice,
@@ -304,8 +320,6 @@ fn answer(
     match v {
         Verdict::Refused(k) => Standardized::Refused(k),
         Verdict::Accepted => {
-            let entries = target_rotations.len() * n;
-            let w = texts.len();
             let basis = *listed_basis;
             finish(
                 t,

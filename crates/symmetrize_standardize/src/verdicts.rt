@@ -30,7 +30,7 @@ ghost use Rattle.definitions.specs.Limits.{tooManySites, notSome, tooManyCandid
 ghost use Rattle.definitions.specs.Limits.{latticeWithin, positionWithin, goodSymprec, notUnimodular, badCopies};
 ghost use Rattle.definitions.specs.Lent.{cellsWithin, unlike};
 ghost use Rattle.symmetrize_standardize.specs.Stages.{refusedWith, givenVerdict, lesser, leastRoom};
-ghost use Rattle.symmetrize_standardize.specs.Stages.{workVerdict, wholeVerdict};
+ghost use Rattle.symmetrize_standardize.specs.Stages.{candidatesRoom, imagesRoom, workVerdict, wholeVerdict};
 
 // ---- 2 to 4
 
@@ -202,6 +202,29 @@ fn given_verdict(
         return Verdict::Refused(refusal::FLOAT_RANGE);
     }
     Verdict::Accepted
+}
+
+// ---- how much is lent to the sub-calls: nothing past the limits, where 2 refuses whatever they tell
+
+pub(crate) fn candidates_room(candidates: usize) -> usize
+    ensures { λ r. ⌜ r ≡ candidatesRoom candidates ⌝ }
+{
+    if MOST_CANDIDATES < candidates {
+        return 0;
+    }
+    candidates
+}
+
+pub(crate) fn images_room(sites: usize, targets: usize) -> usize
+    ensures { λ r. ⌜ r ≡ imagesRoom sites targets ⌝ }
+{
+    if MOST_SITES < sites {
+        return 0;
+    }
+    if !is_some_count(targets) {
+        return 0;
+    }
+    targets * sites
 }
 
 // ---- 5 to 12

@@ -1,20 +1,21 @@
 -- `answer`: the verdict by the sub-calls' promises, and the promise of the whole by what `finish` left.
 use Prim.Native.Nat.{ℕ, _*_, _≤_}
 use mathlib.Core.Path.{_≡_, refl, sym, ap, subst, _∙_}
-use mathlib.Core.List.{List}
-use lib.ListN.{length, replicate, length-replicate}
+use mathlib.Core.List.{List, [], _∷_, _++_}
+use lib.ListN.{length, take, drop, replicate, length-replicate}
 use lib.Seq.{length-take-le}
 use mir.Syntax.{w8}
 use Rattle.definitions.specs.Lent.{zeroCells, zeroMatrix}
-use Rattle.definitions.specs.SiteCalls.{SpaceCells}
+use Rattle.definitions.specs.SiteCalls.{SpaceCells, spaceRooms}
 use Rattle.definitions.specs.WholeCalls.{Given, AnswerCells, roomsOf}
 use Rattle.laws.specs.Verdicts.{Passed}
 use Rattle.math_matrix.proofs.Shape.{good-three}
 use Rattle.symmetrize_standardize.specs.Stages.{Told, leastRoom, wholeVerdict}
 use Rattle.symmetrize_standardize.proofs.General.{Until}
-use Rattle.symmetrize_standardize.proofs.Ladder.{conditions, Right, whole-until}
-use Rattle.symmetrize_standardize.proofs.Parts.{entries-word, still-room}
-use Rattle.symmetrize_standardize.proofs.Past.{known-copies, known-sites, known-texts, known-images, known-roomy}
+use Rattle.symmetrize_standardize.proofs.Ladder.{conditions, tableRooms, few-images, few-candidates, Right, whole-until}
+use Rattle.symmetrize_standardize.proofs.Parts.{front-back, front-room, still-room}
+use Rattle.symmetrize_standardize.proofs.Choices.{fronts}
+use Rattle.symmetrize_standardize.proofs.Past.{known-copies, known-sites, known-entries, known-candidates, known-roomy}
 use Rattle.symmetrize_standardize.proofs.Assembled.{right-of, refused-uncleared, answered}
 use Rattle.symmetrize_standardize.proofs.answer.Statement.{statement}
 use Rattle.symmetrize_standardize.proofs.answer.Tie as tie
@@ -63,7 +64,7 @@ lent s =
 -- ---- the sub-calls before the verdict
 
 abbrev prepared : tie.After-whole-verdict → tie.After-prepare-all
-prepared w = w .before .before .before .before .before .before .before .before .before .before .before .before .before .before .before .before
+prepared w = w .before .before .before .before .before .before .before .before .before .before .before .before .before .before .before .before .before
 
 abbrev aligned : tie.After-whole-verdict → tie.After-align-permutations
 aligned w = w .before .before .before .before .before .before .before .before .before
@@ -74,18 +75,40 @@ deformed w = w .before .before .before .before
 abbrev diagonalised : tie.After-whole-verdict → tie.After-invariant-factors
 diagonalised w = w .before .before
 
+abbrev candidates : tie.After-whole-verdict → tie.After-candidates-room
+candidates w = w .before .before .before .before .before .before .before .before .before .before .before .before .before .before .before .before .before .before .before .before .before .before .before
+
+abbrev entries : tie.After-whole-verdict → tie.After-images-room
+entries w = w .before .before .before .before .before .before .before .before .before .before .before
+
 abbrev start : tie.After-whole-verdict → tie.Start
-start w = w .before .before .before .before .before .before .before .before .before .before .before .before .before .before .before .before .before .before .before .before .before .before .before .before .before .before .before .before .before
+start w = w .before .before .before .before .before .before .before .before .before .before .before .before .before .before .before .before .before .before .before .before .before .before .before .before .before .before .before .before .before .before .before
+
+-- the fronts of the tables and of the images that are lent
+abbrev zeros : List ℕ
+zeros = replicate 24576 0
+
+few : (c : tie.After-candidates-room) → c .candidates-room .result ≤ 64
+few c =
+    let a = c .before .before .before .before .before .before .before .before .args in
+    subst (λ n. n ≤ 64) (sym (c .candidates-room .ensures)) (few-candidates (length (a .texts .now)))
+
+few-entries : (c : tie.After-images-room) → c .images-room .result ≤ length zeros
+few-entries c =
+    let a = c .before .before .before .before .before .before .before .before .before .before .before .before .before .before .before .before .before .before .before .before .args in
+    still-room (subst (λ n. n ≤ 24576) (sym (c .images-room .ensures)) (few-images (length (a .positions .now)) (length (a .target-rotations .now))))
+    (length-replicate {A = ℕ} 24576 0)
 
 -- the tables and the images as they are lent, and as they come back
-abbrev no-spaces : SpaceCells
-no-spaces =
+abbrev no-spaces : tie.After-whole-verdict → SpaceCells
+no-spaces w =
+    let k = candidates w .candidates-room .result in
     record {
-      matrices = replicate 64 zeroMatrix;
-      shifts = replicate 64 zeroCells;
-      ds = replicate 64 zeroMatrix;
-      ls = replicate 64 zeroMatrix;
-      rs = replicate 64 zeroMatrix;
+      matrices = take k (replicate 64 zeroMatrix);
+      shifts = take k (replicate 64 zeroCells);
+      ds = take k (replicate 64 zeroMatrix);
+      ls = take k (replicate 64 zeroMatrix);
+      rs = take k (replicate 64 zeroMatrix);
     }
 
 abbrev spaces : tie.After-whole-verdict → SpaceCells
@@ -98,11 +121,28 @@ spaces w =
       rs = prepared w .prepare-all .last .1 .1 .1 .1 .1 .0;
     }
 
-abbrev no-images : List ℕ
-no-images = replicate 24576 0
+abbrev no-images : tie.After-whole-verdict → List ℕ
+no-images w = take (entries w .images-room .result) zeros
 
 abbrev images : tie.After-whole-verdict → List ℕ
 images w = aligned w .align-permutations .last .1 .1 .1 .1 .1 .0
+
+-- their lengths
+matrices-long : (w : tie.After-whole-verdict) → length (take (candidates w .candidates-room .result) (replicate 64 zeroMatrix)) ≡ candidates w .candidates-room .result
+matrices-long w = length-take-le _ (replicate 64 zeroMatrix) (few (candidates w))
+
+shifts-long : (w : tie.After-whole-verdict) → length (take (candidates w .candidates-room .result) (replicate 64 zeroCells)) ≡ candidates w .candidates-room .result
+shifts-long w = length-take-le _ (replicate 64 zeroCells) (few (candidates w))
+
+images-long : (w : tie.After-whole-verdict) → length (no-images w) ≡ entries w .images-room .result
+images-long w = length-take-le _ zeros (few-entries (entries w))
+
+table-rooms : (w : tie.After-whole-verdict) → spaceRooms (no-spaces w) ≡ tableRooms (given (start w))
+table-rooms w =
+    let e = candidates w .candidates-room .ensures in
+    let m = matrices-long w ∙ e in
+    let s = shifts-long w ∙ e in
+    λ i. m i ∷ s i ∷ m i ∷ m i ∷ m i ∷ []
 
 abbrev told : tie.After-whole-verdict → Told
 told w =
@@ -115,8 +155,8 @@ told w =
 
 right : (w : tie.After-whole-verdict) → Right (given (start w)) (told w)
 right w =
-    right-of (given (start w)) no-spaces (spaces w) (prepared w .prepare-all .result) refl (prepared w .prepare-all .ensures)
-    no-images (images w) (aligned w .align-permutations .result) (length-replicate {A = ℕ} 24576 0) (aligned w .align-permutations .ensures)
+    right-of (given (start w)) (no-spaces w) (spaces w) (prepared w .prepare-all .result) (table-rooms w) (prepared w .prepare-all .ensures)
+    (no-images w) (images w) (aligned w .align-permutations .result) (images-long w ∙ entries w .images-room .ensures) (aligned w .align-permutations .ensures)
     (deformed w .symmetrize-lattice .last .1 .1 .1 .1 .0) (deformed w .symmetrize-lattice .last .1 .1 .1 .1 .1 .0) (deformed w .symmetrize-lattice .last .1 .1 .1 .1 .1 .1 .0)
     (deformed w .symmetrize-lattice .result) (deformed w .symmetrize-lattice .ensures)
     (diagonalised w .invariant-factors .last .1 .0) (diagonalised w .invariant-factors .result) (diagonalised w .invariant-factors .ensures)
@@ -150,42 +190,100 @@ passed c =
     let s = start (verdict c) in
     subst (Until (conditions (given s) (roomsOf (lent s))) 12) (c .enum-told .given .1) (until (verdict c))
 
-in-aligned :
-    (c : tie.After-enum-told) → let a = start (verdict c) .args in
-    length (a .target-rotations .now) * length (a .positions .now) ≤ length (aligned (verdict c) .align-permutations .last .1 .1 .1 .1 .1 .0)
+in-aligned : (c : tie.After-enum-told) → let k = entries (verdict c) .images-room .result in k ≤ length (images (verdict c) ++ drop k zeros)
 in-aligned c =
-    let s = start (verdict c) in
-    still-room (known-images (given s) (roomsOf (lent s)) (passed c)) (aligned (verdict c) .align-permutations .kept .1 .1 .1 .1 .1 .0 ∙ length-replicate {A = ℕ} 24576 0)
+    front-room _ zeros (images (verdict c)) (few-entries (entries (verdict c))) (aligned (verdict c) .align-permutations .kept .1 .1 .1 .1 .1 .0)
 
-in-matrices : (c : tie.After-enum-told) → length (start (verdict c) .args .texts .now) ≤ length (prepared (verdict c) .prepare-all .last .1 .0)
-in-matrices c =
-    let s = start (verdict c) in
-    still-room (known-texts (given s) (roomsOf (lent s)) (passed c)) (prepared (verdict c) .prepare-all .kept .1 .0)
+in-matrices : (c : tie.After-enum-told) → let k = candidates (verdict c) .candidates-room .result in k ≤ length (spaces (verdict c) .matrices ++ drop k (replicate 64 zeroMatrix))
+in-matrices c = front-room _ (replicate 64 zeroMatrix) (spaces (verdict c) .matrices) (few (candidates (verdict c))) (prepared (verdict c) .prepare-all .kept .1 .0)
 
-in-shifts : (c : tie.After-enum-told) → length (start (verdict c) .args .texts .now) ≤ length (prepared (verdict c) .prepare-all .last .1 .1 .0)
-in-shifts c =
-    let s = start (verdict c) in
-    still-room (known-texts (given s) (roomsOf (lent s)) (passed c)) (prepared (verdict c) .prepare-all .kept .1 .1 .0)
+in-shifts : (c : tie.After-enum-told) → let k = candidates (verdict c) .candidates-room .result in k ≤ length (spaces (verdict c) .shifts ++ drop k (replicate 64 zeroCells))
+in-shifts c = front-room _ (replicate 64 zeroCells) (spaces (verdict c) .shifts) (few (candidates (verdict c))) (prepared (verdict c) .prepare-all .kept .1 .1 .0)
 
-in-ds : (c : tie.After-enum-told) → length (start (verdict c) .args .texts .now) ≤ length (prepared (verdict c) .prepare-all .last .1 .1 .1 .0)
-in-ds c =
-    let s = start (verdict c) in
-    still-room (known-texts (given s) (roomsOf (lent s)) (passed c)) (prepared (verdict c) .prepare-all .kept .1 .1 .1 .0)
+in-ds : (c : tie.After-enum-told) → let k = candidates (verdict c) .candidates-room .result in k ≤ length (spaces (verdict c) .ds ++ drop k (replicate 64 zeroMatrix))
+in-ds c = front-room _ (replicate 64 zeroMatrix) (spaces (verdict c) .ds) (few (candidates (verdict c))) (prepared (verdict c) .prepare-all .kept .1 .1 .1 .0)
 
-in-ls : (c : tie.After-enum-told) → length (start (verdict c) .args .texts .now) ≤ length (prepared (verdict c) .prepare-all .last .1 .1 .1 .1 .0)
-in-ls c =
-    let s = start (verdict c) in
-    still-room (known-texts (given s) (roomsOf (lent s)) (passed c)) (prepared (verdict c) .prepare-all .kept .1 .1 .1 .1 .0)
+in-ls : (c : tie.After-enum-told) → let k = candidates (verdict c) .candidates-room .result in k ≤ length (spaces (verdict c) .ls ++ drop k (replicate 64 zeroMatrix))
+in-ls c = front-room _ (replicate 64 zeroMatrix) (spaces (verdict c) .ls) (few (candidates (verdict c))) (prepared (verdict c) .prepare-all .kept .1 .1 .1 .1 .0)
 
-in-rs : (c : tie.After-enum-told) → length (start (verdict c) .args .texts .now) ≤ length (prepared (verdict c) .prepare-all .last .1 .1 .1 .1 .1 .0)
-in-rs c =
-    let s = start (verdict c) in
-    still-room (known-texts (given s) (roomsOf (lent s)) (passed c)) (prepared (verdict c) .prepare-all .kept .1 .1 .1 .1 .1 .0)
+in-rs : (c : tie.After-enum-told) → let k = candidates (verdict c) .candidates-room .result in k ≤ length (spaces (verdict c) .rs ++ drop k (replicate 64 zeroMatrix))
+in-rs c = front-room _ (replicate 64 zeroMatrix) (spaces (verdict c) .rs) (few (candidates (verdict c))) (prepared (verdict c) .prepare-all .kept .1 .1 .1 .1 .1 .0)
 
-mul-entries : tie.Need-mul-entries
-mul-entries c =
-    let s = start (verdict c) in
-    entries-word (length (s .args .target-rotations .now) * length (s .args .positions .now)) (known-images (given s) (roomsOf (lent s)) (passed c))
+-- the lent fronts as `finish` reads them
+images-front :
+    (c : tie.After-enum-told) → let w = verdict c in let k = entries w .images-room .result in
+    take k (images w ++ drop k zeros) ≡ take (length (given (start w) .targetRotations) * length (given (start w) .positions)) (images w)
+images-front c =
+    let w = verdict c in
+    let s = start w in
+    front-back _ _ (images w) (drop (entries w .images-room .result) zeros)
+    (entries w .images-room .ensures ∙ known-entries (given s) (roomsOf (lent s)) (passed c))
+    (aligned w .align-permutations .kept .1 .1 .1 .1 .1 .0 ∙ images-long w)
+
+abbrev behind : tie.After-whole-verdict → SpaceCells
+behind w =
+    let k = candidates w .candidates-room .result in
+    record {
+      matrices = take k (spaces w .matrices ++ drop k (replicate 64 zeroMatrix));
+      shifts = take k (spaces w .shifts ++ drop k (replicate 64 zeroCells));
+      ds = take k (spaces w .ds ++ drop k (replicate 64 zeroMatrix));
+      ls = take k (spaces w .ls ++ drop k (replicate 64 zeroMatrix));
+      rs = take k (spaces w .rs ++ drop k (replicate 64 zeroMatrix));
+    }
+
+spaces-fronts : (c : tie.After-enum-told) → behind (verdict c) ≡ fronts (length (given (start (verdict c)) .texts)) (spaces (verdict c))
+spaces-fronts c =
+    let w = verdict c in
+    let s = start w in
+    let k = candidates w .candidates-room .result in
+    let e = candidates w .candidates-room .ensures ∙ known-candidates (given s) (roomsOf (lent s)) (passed c) in
+    let kept = prepared w .prepare-all .kept in
+    λ i.
+    record {
+      matrices = front-back _ _ (spaces w .matrices) (drop k (replicate 64 zeroMatrix)) e (kept .1 .0 ∙ matrices-long w) i;
+      shifts = front-back _ _ (spaces w .shifts) (drop k (replicate 64 zeroCells)) e (kept .1 .1 .0 ∙ shifts-long w) i;
+      ds = front-back _ _ (spaces w .ds) (drop k (replicate 64 zeroMatrix)) e (kept .1 .1 .1 .0 ∙ matrices-long w) i;
+      ls = front-back _ _ (spaces w .ls) (drop k (replicate 64 zeroMatrix)) e (kept .1 .1 .1 .1 .0 ∙ matrices-long w) i;
+      rs = front-back _ _ (spaces w .rs) (drop k (replicate 64 zeroMatrix)) e (kept .1 .1 .1 .1 .1 .0 ∙ matrices-long w) i;
+    }
+
+-- ---- the fronts are lent
+
+array-borrow-prefix-matrices : tie.Need-array-borrow-prefix-matrices
+array-borrow-prefix-matrices c = few c
+
+slice-aggregate-prepare-all : tie.Need-slice-aggregate-prepare-all
+slice-aggregate-prepare-all c = sym (length-take-le _ (replicate 64 zeroMatrix) (few (c .before)))
+
+array-borrow-prefix-shifts : tie.Need-array-borrow-prefix-shifts
+array-borrow-prefix-shifts c = few (c .before)
+
+slice-aggregate-prepare-all-2 : tie.Need-slice-aggregate-prepare-all-2
+slice-aggregate-prepare-all-2 c = sym (length-take-le _ (replicate 64 zeroCells) (few (c .before .before)))
+
+array-borrow-prefix-ds : tie.Need-array-borrow-prefix-ds
+array-borrow-prefix-ds c = few (c .before .before)
+
+slice-aggregate-prepare-all-3 : tie.Need-slice-aggregate-prepare-all-3
+slice-aggregate-prepare-all-3 c = sym (length-take-le _ (replicate 64 zeroMatrix) (few (c .before .before .before)))
+
+array-borrow-prefix-ls : tie.Need-array-borrow-prefix-ls
+array-borrow-prefix-ls c = few (c .before .before .before)
+
+slice-aggregate-prepare-all-4 : tie.Need-slice-aggregate-prepare-all-4
+slice-aggregate-prepare-all-4 c = sym (length-take-le _ (replicate 64 zeroMatrix) (few (c .before .before .before .before)))
+
+array-borrow-prefix-rs : tie.Need-array-borrow-prefix-rs
+array-borrow-prefix-rs c = few (c .before .before .before .before)
+
+slice-aggregate-prepare-all-5 : tie.Need-slice-aggregate-prepare-all-5
+slice-aggregate-prepare-all-5 c = sym (length-take-le _ (replicate 64 zeroMatrix) (few (c .before .before .before .before .before)))
+
+array-borrow-prefix-aligned : tie.Need-array-borrow-prefix-aligned
+array-borrow-prefix-aligned c = few-entries c
+
+slice-aggregate-align-permutations : tie.Need-slice-aggregate-align-permutations
+slice-aggregate-align-permutations c = sym (length-take-le _ zeros (few-entries (c .before)))
 
 array-share-prefix-aligned : tie.Need-array-share-prefix-aligned
 array-share-prefix-aligned c = in-aligned (c .before)
@@ -281,17 +379,20 @@ returns-2 c =
       factors = diagonalised w .invariant-factors .last .1 .0;
     } in
     answered (given s) (lent s) z (good-three w8 (s .args .c) (s .good .1 .1 .1 .0)) (passed e)
-    no-spaces (spaces w) (prepared w .prepare-all .result) refl (prepared w .prepare-all .ensures)
-    no-images (images w) (aligned w .align-permutations .result) (length-replicate {A = ℕ} 24576 0) (aligned w .align-permutations .ensures)
+    (no-spaces w) (spaces w) (prepared w .prepare-all .result) (table-rooms w) (prepared w .prepare-all .ensures)
+    (no-images w) (images w) (aligned w .align-permutations .result) (images-long w ∙ entries w .images-room .ensures) (aligned w .align-permutations .ensures)
     (deformed w .symmetrize-lattice .last .1 .1 .1 .1 .0) (deformed w .symmetrize-lattice .result) (deformed w .symmetrize-lattice .ensures)
     (diagonalised w .invariant-factors .result) (diagonalised w .invariant-factors .ensures)
-    (f .finish .ensures .0) (f .finish .result) (f .finish .ensures .1)
+    _ (images-front e) (behind w) (spaces-fronts e) (f .finish .ensures .0) (f .finish .result) (f .finish .ensures .1)
 
 pub answer-spec : {M : Type 1} → statement M
 answer-spec =
     tie.close
-    (tie.spec (λ c. refl) (λ c. refl) (λ c. refl) (λ c. refl) (λ c. refl) (λ c κs. tt) (λ c. refl) (λ c κs. tt) (λ c κs. tt) (λ c κs. tt) (λ c κs. tt) (λ c κs. tt) (λ c. c .match .keys1) (λ c. c .match .keys2)
-    mul-entries array-share-prefix-aligned slice-aggregate-finish array-share-prefix-matrices slice-aggregate-finish-2
+    (tie.spec (λ c κs. tt) array-borrow-prefix-matrices slice-aggregate-prepare-all array-borrow-prefix-shifts slice-aggregate-prepare-all-2
+    array-borrow-prefix-ds slice-aggregate-prepare-all-3 array-borrow-prefix-ls slice-aggregate-prepare-all-4 array-borrow-prefix-rs
+    slice-aggregate-prepare-all-5 (λ c κs. tt) (λ c κs. tt) array-borrow-prefix-aligned slice-aggregate-align-permutations (λ c κs. tt)
+    (λ c κs. tt) (λ c κs. tt) (λ c κs. tt) (λ c κs. tt) (λ c. c .match .keys1) (λ c. c .match .keys2)
+    array-share-prefix-aligned slice-aggregate-finish array-share-prefix-matrices slice-aggregate-finish-2
     array-share-prefix-shifts slice-aggregate-finish-3 array-share-prefix-ds slice-aggregate-finish-4 array-share-prefix-ls
     slice-aggregate-finish-5 array-share-prefix-rs slice-aggregate-finish-6 finish-requires returns same-length same-length-2
     same-length-3 same-length-4 same-length-5 same-length-6 same-length-7 same-length-8 returns-2)
