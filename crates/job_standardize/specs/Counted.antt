@@ -58,9 +58,11 @@ module _ (bs : List ℕ) where
         by (refused m, ret, told) =
             let e : m ≡ n = cc in
             ⊎-elim (λ x. absurd x)
-            (λ x. subst (λ j. BytesPromise bs entry exit (Refused j)) (x .0 ∙ e) (no-job-promise bs (x .1) entry exit zero))
+            (λ x.
+            subst (λ j. BytesPromise bs entry exit (Refused j)) (x .0 ∙ e) (no-job-promise bs (x .1) entry exit zero))
             (applies-last [] (job-bytes when NoJob bs) m (ret .0))
 
   pub too-many : (k : JobCounts) → JobOf bs k → tooMany k ≡ true → Refuses bs counts
   too-many k j e entry exit zero =
-      counts-promise bs (j .parts) (j .are) (j .a-job) (many-bad (j .parts) (ap tooMany (j .counts) ∙ e)) entry exit zero
+      counts-promise bs (j .parts) (j .are) (j .a-job) (many-bad (j .parts) (ap tooMany (j .counts) ∙ e)) entry exit
+      zero

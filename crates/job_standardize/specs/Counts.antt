@@ -117,7 +117,8 @@ module _ (p : Parts) where
 
     images-few : length (p .images) ≤ most-images
     images-few =
-        let u : length (p .images) ≡ k * n = eqb-true _ _ (not-false _ (neither-right first-five (unlike (length (p .images)) (k * n)) h)) in
+        let u : length (p .images) ≡ k * n =
+        eqb-true _ _ (not-false _ (neither-right first-five (unlike (length (p .images)) (k * n)) h)) in
         let f = few-entries n k some-operations sites-few in
         omega (arith, u, f)
 
@@ -131,7 +132,8 @@ module _ (p : Parts) where
         (le-ltb most-images _ images-few))
         (le-ltb most-operations _ targets-few))
         (le-ltb most-operations _ rotations-few))
-        (neither-right (tooManySites n || notSome k || notSome (length (p .targets)) || notSome (length (p .rotations))) _ five)
+        (neither-right
+        (tooManySites n || notSome k || notSome (length (p .targets)) || notSome (length (p .rotations))) _ five)
 
   -- a job of more is refused with 2
   pub many-bad : tooMany (countsOf p) ≡ true → T (badCounts (jobOf p))

@@ -59,7 +59,8 @@ unfolding any
 no-room a = refl
 
 two-rooms : (a k l : ℕ) → k ≡ a → l ≡ a → any (shorterThan a) (k ∷ l ∷ []) ≡ false
-two-rooms a k l e f = any-none (shorterThan a) k (l ∷ []) (room a k e) (any-none (shorterThan a) l [] (room a l f) (no-room a))
+two-rooms a k l e f =
+    any-none (shorterThan a) k (l ∷ []) (room a k e) (any-none (shorterThan a) l [] (room a l f) (no-room a))
 
 three-rooms : (a k l m : ℕ) → k ≡ a → l ≡ a → m ≡ a → any (shorterThan a) (k ∷ l ∷ m ∷ []) ≡ false
 three-rooms a k l m e f g = any-none (shorterThan a) k (l ∷ m ∷ []) (room a k e) (two-rooms a l m f g)
@@ -73,7 +74,8 @@ exact f l zero old cells h e =
     let none-left : length old - length (map f l) ≡ 0 = omega (arith, e, length-map l f) in
     h ∙ ap (λ n. map f l ++ replicate n zero) none-left ∙ append-nil (map f l)
 
-itself : {A : Type 0} (l : List A) (zero : A) (old cells : List A) → Holds zero old cells l → length old ≡ length l → cells ≡ l
+itself :
+    {A : Type 0} (l : List A) (zero : A) (old cells : List A) → Holds zero old cells l → length old ≡ length l → cells ≡ l
 itself l zero old cells h e =
     let none-left : length old - length l ≡ 0 = omega (arith, e) in
     h ∙ ap (λ n. l ++ replicate n zero) none-left ∙ append-nil l
@@ -113,7 +115,8 @@ module _ (bs : List ℕ) (entry exit : Given) (just : JustRoom bs (roomsOf entry
         (room (length (p .images)) _ (images (just .images))))
         (two-rooms (length (p .targets)) _ _ (targets (just .targetRotations)) (targets (just .targetTranslations))))
         (room (length (p .rotations)) _ (rotations (just .conventional))))
-        (three-rooms (length (p .candidates)) _ _ _ (candidates (just .multiplicities)) (candidates (just .letters)) (candidates (just .texts)))
+        (three-rooms (length (p .candidates)) _ _ _ (candidates (just .multiplicities)) (candidates (just .letters))
+        (candidates (just .texts)))
 
     lists-are : HoldsGiven entry exit (givenOf p) → exit ≡ givenOf p
     unfolding givenOf
@@ -123,7 +126,9 @@ module _ (bs : List ℕ) (entry exit : Given) (just : JustRoom bs (roomsOf entry
           t = h .t j;
           shift = h .shift j;
           c = h .c j;
-          elements = exact (λ s. s .element) (p .sites) (pos 0) (entry .elements) (exit .elements) (h .elements) (sites (just .elements)) j;
+          elements =
+              exact (λ s. s .element) (p .sites) (pos 0) (entry .elements) (exit .elements) (h .elements)
+              (sites (just .elements)) j;
           positions =
               exact (λ s. cellsOf (positionOf (s .position))) (p .sites) zeroCells (entry .positions) (exit .positions)
               (h .positions) (sites (just .positions)) j;

@@ -96,7 +96,10 @@ fn standardize_read(
     factors: &mut [i16; 3],
 ) -> Standardized
     requires { ⌜ JustRoom (now bytes)
-        (rooms (length (now elements)) (length (now positions)) (length (now rotations)) (length (now translations)) (length (now images)) (length (now «target_rotations»)) (length (now «target_translations»)) (length (now conventional)) (length (now candidates)) (length (now «candidate_letters»)) (length (now texts))) ⌝ }
+        (rooms (length (now elements)) (length (now positions)) (length (now rotations)) (length (now translations))
+        (length (now images)) (length (now «target_rotations»)) (length (now «target_translations»))
+        (length (now conventional)) (length (now candidates)) (length (now «candidate_letters»))
+        (length (now texts))) ⌝ }
     ensures { λ r. ⌜
         BytesPromise (now (bytes .entry))
         (record {
