@@ -19,7 +19,7 @@ use Rattle.job_standardize.specs.Bytes.{no-job-promise, counts-promise}
 use Rattle.job_standardize.specs.Counts.{tooMany, Few, many-bad}
 
 -- the bytes are a job of so many of each command
-pub record JobOf (bs : List ℕ) (k : JobCounts) : Type 0 where
+pub record CountedJob (bs : List ℕ) (k : JobCounts) : Type 0 where
   pub parts : Parts
   pub are : IsJob bs parts
   pub a-job : NoJob bs → ⊥
@@ -32,7 +32,7 @@ Refuses bs n =
 
 -- counts that a legal job may have, or a refusal
 abbrev pub Legal : List ℕ → JobRead → Type 0
-Legal bs (job.Read k) = JobOf bs k × Few k
+Legal bs (job.Read k) = CountedJob bs k × Few k
 Legal bs (job.Refused n) = Refuses bs n
 
 module _ (bs : List ℕ) where
@@ -41,11 +41,11 @@ module _ (bs : List ℕ) where
   a-job p ret n = none-of (countConditions bs) precedence job-bytes tt (ret .0) (inl n)
 
   module _ (r : JobRead) (counted : CountPromise bs r) where
-    pub counted-job : (k : JobCounts) → r ≡ job.Read k → JobOf bs k
+    pub counted-job : (k : JobCounts) → r ≡ job.Read k → CountedJob bs k
     unfolding Returns
     counted-job k q = by counted
       where
-        by : CountPromise bs r → JobOf bs k
+        by : CountPromise bs r → CountedJob bs k
         by (accepted p, ret, told) = record { parts = p; are = ret .1; a-job = a-job p ret; counts = cc }
         by (refused n, ret, told) = let z : _≡_ {A = ℕ} 0 1 = cc in absurd (omega arith)
 
@@ -62,7 +62,7 @@ module _ (bs : List ℕ) where
             subst (λ j. BytesPromise bs entry exit (Refused j)) (x .0 ∙ e) (no-job-promise bs (x .1) entry exit zero))
             (applies-last [] (job-bytes when NoJob bs) m (ret .0))
 
-  pub too-many : (k : JobCounts) → JobOf bs k → tooMany k ≡ true → Refuses bs counts
+  pub too-many : (k : JobCounts) → CountedJob bs k → tooMany k ≡ true → Refuses bs counts
   too-many k j e entry exit zero =
       counts-promise bs (j .parts) (j .are) (j .a-job) (many-bad (j .parts) (ap tooMany (j .counts) ∙ e)) entry exit
       zero

@@ -27,12 +27,12 @@ use Rattle.laws.specs.Tests.{not-so, neither}
 use Rattle.job_laws.specs.Decode.{job-unique}
 use Rattle.job.specs.Given.{Rooms, roomsOf}
 use Rattle.job_standardize.specs.Bytes.{bytes-promise}
-use Rattle.job_standardize.specs.Counted.{JobOf}
+use Rattle.job_standardize.specs.Counted.{CountedJob}
 
 -- as many entries in each list as the job has commands
 pub record JustRoom (bs : List ℕ) (e : Rooms) : Type 0 where
   pub k : JobCounts
-  pub job : JobOf bs k
+  pub job : CountedJob bs k
   pub elements : e .elements ≡ k .sites
   pub positions : e .positions ≡ k .sites
   pub rotations : e .rotations ≡ k .operations

@@ -22,19 +22,11 @@ ghost use lib.ListN.{length};
 ghost use Rattle.definitions.specs.WholeCalls.{BytesPromise};
 ghost use Rattle.job.specs.Given.{rooms};
 ghost use Rattle.job_standardize.specs.Counts.{tooMany, Few};
-ghost use Rattle.job_standardize.specs.Counted.{JobOf, Legal};
+ghost use Rattle.job_standardize.specs.Counted.{CountedJob, Legal};
 ghost use Rattle.job_standardize.specs.Rooms.{JustRoom};
 
 // Most jobs have no more images; zeroing the others would cost them more than the reading.
 const USUAL_IMAGES: usize = 1024;
-
-const NO_BASIS: Basis = [[0.0, 0.0, 0.0], [0.0, 0.0, 0.0], [0.0, 0.0, 0.0]];
-
-const NO_ROTATION: Rotation = [[0, 0, 0], [0, 0, 0], [0, 0, 0]];
-
-const NO_CELLS: Cells = [0.0, 0.0, 0.0];
-
-const NO_TEXT: Text = [0u8; 64];
 
 // ---- counts
 
@@ -129,10 +121,10 @@ fn standardize_read(
           factors = now (factors .exit);
         }) r ⌝ }
 {
-    let mut lattice = NO_BASIS;
-    let mut t = NO_ROTATION;
-    let mut shift = NO_CELLS;
-    let mut c = NO_ROTATION;
+    let mut lattice = [[0.0; 3]; 3];
+    let mut t = [[0i8; 3]; 3];
+    let mut shift = [0.0; 3];
+    let mut c = [[0i8; 3]; 3];
     let mut symprec = 0.0;
     read_job(
         bytes,
@@ -201,7 +193,7 @@ fn standardize_counted(
     listed_basis: &mut Basis,
     factors: &mut [i16; 3],
 ) -> Standardized
-    requires { ⌜ JobOf (now bytes) k × Few k × (length (now images) ≡ k .images) ⌝ }
+    requires { ⌜ CountedJob (now bytes) k × Few k × (length (now images) ≡ k .images) ⌝ }
     ensures { λ r. ⌜
         BytesPromise (now (bytes .entry))
         (record {
@@ -232,15 +224,15 @@ fn standardize_counted(
         }) r ⌝ }
 {
     let mut elements = [0i32; MOST_SITES];
-    let mut positions = [NO_CELLS; MOST_SITES];
-    let mut rotations = [NO_ROTATION; MOST_OPERATIONS];
-    let mut translations = [NO_CELLS; MOST_OPERATIONS];
-    let mut target_rotations = [NO_ROTATION; MOST_OPERATIONS];
-    let mut target_translations = [NO_CELLS; MOST_OPERATIONS];
-    let mut conventional = [NO_ROTATION; MOST_OPERATIONS];
+    let mut positions = [[0.0; 3]; MOST_SITES];
+    let mut rotations = [[[0i8; 3]; 3]; MOST_OPERATIONS];
+    let mut translations = [[0.0; 3]; MOST_OPERATIONS];
+    let mut target_rotations = [[[0i8; 3]; 3]; MOST_OPERATIONS];
+    let mut target_translations = [[0.0; 3]; MOST_OPERATIONS];
+    let mut conventional = [[[0i8; 3]; 3]; MOST_OPERATIONS];
     let mut candidates = [0u16; MOST_CANDIDATES];
     let mut candidate_letters = [0u8; MOST_CANDIDATES];
-    let mut texts = [NO_TEXT; MOST_CANDIDATES];
+    let mut texts = [[0u8; 64]; MOST_CANDIDATES];
     let n = k.sites;
     let o = k.operations;
     let g = k.targets;

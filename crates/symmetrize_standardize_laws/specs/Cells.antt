@@ -20,7 +20,7 @@ use Rattle.symmetrize_standardize_laws.specs.Calls.{BytesArguments, byte
 use Rattle.symmetrize_standardize_laws.specs.Whole.{whole-lists, whole-bytes}
 
 -- The job j, what is told of it, and the lent cells before and after.
-pub record Answered (j : Job) (entry exit : AnswerCells) (told : Standardized) : Type 0 where
+pub record CellsAnswer (j : Job) (entry exit : AnswerCells) (told : Standardized) : Type 0 where
   pub work : Work j
   -- no site is counted twice or missed
   pub copies : Copies (j .c) (primitivePositions j) (listed (answerOf work))
@@ -34,8 +34,13 @@ pub record Answered (j : Job) (entry exit : AnswerCells) (told : Standardized) :
   -- 13 comes exactly when some orbit has no fit
   pub thirteen : (told ≡ standardized.Refused orbit-fit) ↔ Unfit (letteringOf j (work .run))
 
-module _ (c : WholeCall) (demand : DemandOfWhole c) (x : c .Arguments) (j : Job) (is : c .IsJob x j) (past : Past orbit-fit (c .conditions x)) where
-  module _ (cs : List Condition) (Is : Answer → Type 0) (entry exit : AnswerCells) (promises : (o : Outcome Answer) → WholeAnswered cs Is entry exit o → c .Promises x o) (told : Standardized) where
+-- a call whose demand is proved, arguments of it that are a job past the refusals before 13, and what is told of them
+module _
+    (c : WholeCall) (demand : DemandOfWhole c) (x : c .Arguments) (j : Job) (is : c .IsJob x j)
+    (past : Past orbit-fit (c .conditions x)) where
+  module _
+      (cs : List Condition) (Is : Answer → Type 0) (entry exit : AnswerCells)
+      (promises : (o : Outcome Answer) → WholeAnswered cs Is entry exit o → c .Promises x o) (told : Standardized) where
     abbrev work : Work j
     work = demand .each-site-once x j (is, past) .0
 
@@ -69,7 +74,7 @@ module _ (c : WholeCall) (demand : DemandOfWhole c) (x : c .Arguments) (j : Job)
           λ u. let f : _≡_ {A = Outcome Answer} (refused k) (refused orbit-fit) = exactly (refused k) p .1 u in cc,
         )
 
-    answered : WholePromised cs Is entry exit told → Answered j entry exit told
+    answered : WholePromised cs Is entry exit told → CellsAnswer j entry exit told
     answered h =
         record {
           work = work;
@@ -83,11 +88,11 @@ module _ (c : WholeCall) (demand : DemandOfWhole c) (x : c .Arguments) (j : Job)
 -- of the call on lists: its contract is `ListsPromise`
 pub lists-answered :
     (x : ListsArguments) (j : Job) → listsCall .IsJob x j → Past orbit-fit (listsCall .conditions x) →
-    (exit : AnswerCells) (told : Standardized) → ListsPromise (x .given) (x .entry) exit told → Answered j (x .entry) exit told
+    (exit : AnswerCells) (told : Standardized) → ListsPromise (x .given) (x .entry) exit told → CellsAnswer j (x .entry) exit told
 lists-answered x j is past exit told = answered listsCall whole-lists x j is past _ _ (x .entry) exit (λ o h. (exit, h)) told
 
 -- of the call on bytes: its contract is `BytesPromise`
 pub bytes-answered :
     (x : BytesArguments) (j : Job) → bytesCall .IsJob x j → Past orbit-fit (bytesCall .conditions x) →
-    (exit : AnswerCells) (told : Standardized) → BytesPromise (x .bytes) (x .entry) exit told → Answered j (x .entry) exit told
+    (exit : AnswerCells) (told : Standardized) → BytesPromise (x .bytes) (x .entry) exit told → CellsAnswer j (x .entry) exit told
 bytes-answered x j is past exit told = answered bytesCall whole-bytes x j is past _ _ (x .entry) exit (λ o h. (exit, h)) told
