@@ -4,15 +4,10 @@ use mathlib.Core.Path.{_≡_, refl, ap, _∙_}
 use mathlib.Core.List.{List, _∷_, map}
 use native.Mathlib.Omega.{arith}
 use native.Mathlib.Nat.{not-suc-le-zero, le-of-suc-le-suc}
-use lib.ListN.{length, getD}
+use lib.ListN.{getD}
 use Rattle.job.specs.Places.{items}
 
 module _ {A : Type 0} (f : ℕ → A) (w : ℕ) where
-  pub length-items : (at n : ℕ) → length (items f w at n) ≡ n
-  unfolding items
-  length-items at zero = refl
-  length-items at (suc n) = ap suc (length-items (at + w) n)
-
   pub items-at : (at n i : ℕ) (d : A) → i < n → getD (items f w at n) i d ≡ f (at + i * w)
   unfolding items
   items-at at zero i d h = absurd (not-suc-le-zero h)

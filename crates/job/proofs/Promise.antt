@@ -18,10 +18,10 @@ use Rattle.laws.specs.Tests.{so, not-so}
 use Rattle.laws.specs.Verdicts.{HoldsAt, Passed, found-at, found-none, refuse, accept, verdictOf, accepted-with, refused-with}
 use Rattle.job_laws.specs.Decode.{job-unique}
 use Rattle.job.specs.Places.{items, run, partsAt, wordAt, integerAt, floatsAt, entriesAt, textAt, latticeAt, cellsFrom, matrixFrom, siteAt, operationAt, candidateAt, sitesFrom, operationsFrom, imagesFrom, targetsFrom, rotationsFrom, candidatesFrom, symprecFrom}
-use Rattle.job.specs.Counted.{JobOf, Counted}
+use Rattle.job.specs.Counted.{JobOf, Counted, counts-are, not-no-job}
 use Rattle.definitions.specs.WholeCalls.{countConditions, CountPromise}
-use Rattle.job.specs.Given.{givenAt, roomsOf, short, Settled}
-use Rattle.job.proofs.Items.{length-items, items-from}
+use Rattle.job.specs.Given.{givenAt, roomsOf, short, Settled, readable, countedGiven, ReadCounted}
+use Rattle.job.proofs.Items.{items-from}
 use Rattle.job.proofs.Words.{word8-is}
 
 -- ---- the parts' lists, by places
@@ -75,23 +75,7 @@ given-is bs k =
       symprec = symprec i;
     }
 
--- as many of each as were counted
-pub counts-are : (bs : List ℕ) (k : JobCounts) → countsOf (partsAt bs k) ≡ k
-unfolding partsAt
-counts-are bs k = λ i.
-    record {
-      sites = length-items (λ p. siteAt bs (p + 1)) 29 sitesFrom (k .sites) i;
-      operations = length-items (λ p. operationAt bs (p + 1)) 34 (operationsFrom k) (k .operations) i;
-      images = length-items (λ p. wordAt 1 bs (p + 1)) 2 (imagesFrom k) (k .images) i;
-      targets = length-items (λ p. operationAt bs (p + 1)) 34 (targetsFrom k) (k .targets) i;
-      rotations = length-items (λ p. entriesAt bs (p + 1)) 10 (rotationsFrom k) (k .rotations) i;
-      candidates = length-items (λ p. candidateAt bs (p + 1)) 68 (candidatesFrom k) (k .candidates) i;
-    }
-
 -- ---- the promise
-
-a-job-not : (bs : List ℕ) (k : JobCounts) → JobOf bs k → NoJob bs → ⊥
-a-job-not bs k j = ⊎-elim (λ h. absurd (omega (arith, j .few))) (λ f. f (partsAt bs k) (j .is))
 
 -- counted
 pub count-kept : (bs : List ℕ) (r : JobRead) → Counted bs r → CountPromise bs r
@@ -99,7 +83,7 @@ unfolding verdictOf found-none found-at Passed HoldsAt
 count-kept bs (Read k) j =
     let cs = countConditions bs in
     let p = partsAt bs k in
-    (accepted p, accepted-with cs (IsJob bs) p (accept cs (a-job-not bs k j, tt) refl) (j .is), ap Read (counts-are bs k))
+    (accepted p, accepted-with cs (IsJob bs) p (accept cs (not-no-job bs k j, tt) refl) (j .is), ap Read (counts-are bs k))
 count-kept bs (Refused n) x =
     let cs = countConditions bs in
     (refused 1, refused-with cs (IsJob bs) 1 (refuse cs 0 tt (x .1) (verdict.Refused 1) refl), ap Refused (sym (x .0)))
@@ -117,7 +101,7 @@ module _ (bs : List ℕ) (entry exit : Given) where
       let fits : (q : Parts) × IsJob bs q × T (tooShortFor entry q) → ⊥ = λ x.
       not-so (too-short-is k ∙ e) (subst (λ (q : Parts). T (tooShortFor entry q)) (job-unique bs (x .0) p (x .1) (j .is)) (x .2)) in (
         accepted p,
-        (accepted-with cs (IsJob bs) p (accept cs (a-job-not bs k j, (fits, tt)) refl) (j .is), subst (HoldsGiven entry exit) (sym (given-is bs k)) h),
+        (accepted-with cs (IsJob bs) p (accept cs (not-no-job bs k j, (fits, tt)) refl) (j .is), subst (HoldsGiven entry exit) (sym (given-is bs k)) h),
         ap Read (counts-are bs k),
       )
 
@@ -138,4 +122,11 @@ module _ (bs : List ℕ) (entry exit : Given) where
       too-short x =
           let k = x .1 .0 in
           let j = x .1 .1 in
-          with 10 (refuse cs 1 (a-job-not bs k j, tt) (partsAt bs k, j .is, so (too-short-is k ∙ x .1 .2)) (verdict.Refused 10) refl) (x .0)
+          with 10 (refuse cs 1 (not-no-job bs k j, tt) (partsAt bs k, j .is, so (too-short-is k ∙ x .1 .2)) (verdict.Refused 10) refl) (x .0)
+
+  -- counted already
+  pub counted-kept : (k : JobCounts) → readable bs k (roomsOf entry) ≡ true → HoldsGiven entry exit (givenAt bs k) → ReadCounted bs k entry exit
+  counted-kept k e h = subst (HoldsGiven entry exit) (sym (given-is bs k) ∙ ap (λ b. countedGiven b bs k) (sym e)) h
+
+  pub counted-none : (k : JobCounts) → readable bs k (roomsOf entry) ≡ false → HoldsGiven entry exit nothingGiven → ReadCounted bs k entry exit
+  counted-none k e h = subst (HoldsGiven entry exit) (ap (λ b. countedGiven b bs k) (sym e)) h

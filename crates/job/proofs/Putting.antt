@@ -8,7 +8,8 @@ use lib.ListN.{length, set, take, drop, length-set}
 use Rattle.definitions.specs.Refusal.{padded}
 use Rattle.laws.specs.Filling.{cut, put-step, put-end, padded-by}
 use Rattle.job.specs.Places.{items}
-use Rattle.job.proofs.Items.{length-items, items-at}
+use Rattle.job.specs.Places.{length-items}
+use Rattle.job.proofs.Items.{items-at}
 
 -- i of the n items are written, and the next one stands at `place`
 pub record Putting {A : Type 0} (f : ℕ → A) (w at n : ℕ) (old new : List A) (place i : ℕ) : Type 0 where

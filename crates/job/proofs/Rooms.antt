@@ -1,15 +1,20 @@
 -- Lists that are too short, and lists that are not.
-use Prim.Native.Nat.{ℕ, _≤_}
-use mathlib.Core.Path.{_≡_, refl}
-use mathlib.Core.Bool.{Bool, true, false, _||_}
+use Prim.Native.Nat.{ℕ, _+_, _≤_, _<_}
+use mathlib.Core.Path.{_≡_, refl, sym, ap, _∙_}
+use mathlib.Core.Bool.{Bool, true, false, not, _||_}
 use mathlib.Core.List.{List, [], _∷_}
-use borrow.Author.Tests.{ltb-false}
+use native.Mathlib.Omega.{arith}
+use borrow.Author.Tests.{ltb-false, lt-ltb, le-ltb, eqb-true, not-true}
+use lib.ListN.{length}
+use lib.Dec.{T, ltb, eqb}
 use Rattle.definitions.specs.declared.JobCounts.{JobCounts}
 use Rattle.definitions.specs.Lists.{any}
-use Rattle.definitions.specs.Limits.{shorterThan}
-use Rattle.laws.specs.Tests.{neither-left, neither-right}
+use Rattle.definitions.specs.Limits.{shorterThan, most-bytes}
+use Rattle.laws.specs.Tests.{neither-left, neither-right, never, so, true-of, off, both-pass}
 use Rattle.laws.specs.Lists.{none-head, none-tail}
-use Rattle.job.specs.Given.{Rooms, short, shorterTwo, shorterThree, Enough}
+use Rattle.job.specs.Places.{symprecFrom}
+use Rattle.job.specs.Counted.{moreThan, Within, within-not}
+use Rattle.job.specs.Given.{Rooms, short, shorterTwo, shorterThree, Enough, takesUp, readable, most-each}
 
 pub any-skip : {A : Type 0} (t : A → Bool) (a : A) (l : List A) → t a ≡ false → any t (a ∷ l) ≡ any t l
 unfolding any
@@ -66,3 +71,43 @@ enough k e h =
       letters = second (k .candidates) (e .multiplicities) (e .letters) (e .texts ∷ []) candidates;
       texts = third (k .candidates) (e .multiplicities) (e .letters) (e .texts) candidates;
     }
+
+-- ---- counts and bytes
+
+module _ (k : JobCounts) (n : ℕ) where
+  pub too-many-bytes : most-bytes < n → false ≡ takesUp k n
+  too-many-bytes h = rw (lt-ltb most-bytes n h)
+
+  -- counts that take up the bytes are not above their number
+  within-bytes : n ≤ most-bytes → symprecFrom k + 10 ≡ n → Within most-each k
+  within-bytes h e =
+      record {
+        sites = omega (arith, h, e);
+        operations = omega (arith, h, e);
+        images = omega (arith, h, e);
+        targets = omega (arith, h, e);
+        rotations = omega (arith, h, e);
+        candidates = omega (arith, h, e);
+      }
+
+  pub too-many-commands : n ≤ most-bytes → moreThan most-each k ≡ true → false ≡ takesUp k n
+  too-many-commands h m =
+      let b = eqb (symprecFrom k + 10) n in
+      let no : T b → ⊥ = λ t. never (sym (within-not most-each k (within-bytes h (eqb-true _ _ (true-of b t)))) ∙ m) in
+      rw (le-ltb most-bytes n h, off b no)
+
+  pub takes-up-so : n ≤ most-bytes → (r : Bool) → r ≡ eqb (symprecFrom k + 10) n → r ≡ takesUp k n
+  takes-up-so h r e = rw (le-ltb most-bytes n h) e
+
+-- every place of so many commands is a number
+pub place-fits : (k : JobCounts) → Within most-each k → symprecFrom k + 10 < 18446744073709551616
+place-fits k w =
+    omega
+    (arith, w .sites, w .operations, w .images, w .targets, w .rotations, w .candidates)
+
+-- where counted commands are read, they take up the bytes, and the lists have room
+pub read-so : (bs : List ℕ) (k : JobCounts) (e : Rooms) → readable bs k e ≡ true → (symprecFrom k + 10 ≡ length bs) × Enough k e
+read-so bs k e h =
+    let both = both-pass (takesUp k (length bs)) (not (short k e)) (so h) in
+    let bytes = both-pass (not (ltb most-bytes (length bs))) (eqb (symprecFrom k + 10) (length bs)) (both .0) in
+    (eqb-true _ _ (true-of _ (bytes .1)), enough k e (not-true _ (true-of _ (both .1))))

@@ -1,25 +1,26 @@
 -- The lent values of the call that reads a job, and whether they have room.
 use Prim.Native.Nat.{ℕ, _+_, _≤_}
 use mathlib.Core.Path.{_≡_}
-use mathlib.Core.Bool.{Bool, true, false, _||_}
+use mathlib.Core.Bool.{Bool, true, false, not, _||_, _&&_}
 use mathlib.Core.List.{List, [], _∷_}
 use mathlib.Core.Logic.{_⊎_}
 use lib.ListN.{length}
+use lib.Dec.{ltb, eqb}
 use lib.IntN.{ℤ}
 use lib.Ieee.{Float}
 use Rattle.definitions.specs.declared.JobCounts.{JobCounts}
 use Rattle.definitions.specs.declared.JobRead.{JobRead}
 use Rattle.definitions.specs.declared.JobRead.the-variants.{Read, Refused}
 use Rattle.definitions.specs.Lists.{any}
-use Rattle.definitions.specs.Limits.{shorterThan}
+use Rattle.definitions.specs.Limits.{shorterThan, most-bytes}
 use Rattle.definitions.specs.Refusal.{job-bytes, buffer}
 use Rattle.definitions.specs.Matrix.{Matrix}
 use Rattle.definitions.specs.Real.{RealMatrix}
 use Rattle.definitions.specs.Job.{NoJob, positionOf}
 use Rattle.definitions.specs.Lent.{positionFrom}
-use Rattle.definitions.specs.WholeCalls.{Given}
+use Rattle.definitions.specs.WholeCalls.{Given, givenOf, HoldsGiven, nothingGiven}
 use Rattle.job.specs.Places.{items, wordAt, integerAt, floatsAt, textAt, latticeAt, cellsFrom, matrixFrom}
-use Rattle.job.specs.Places.{operationsFrom, imagesFrom, targetsFrom, rotationsFrom, candidatesFrom, symprecFrom}
+use Rattle.job.specs.Places.{partsAt, operationsFrom, imagesFrom, targetsFrom, rotationsFrom, candidatesFrom, symprecFrom}
 use Rattle.job.specs.Words.{floatAt}
 use Rattle.job.specs.Counted.{JobOf}
 
@@ -146,3 +147,33 @@ abbrev pub Settled : List ℕ → Rooms → JobRead → Type 0
 Settled bs e (Read k) = JobOf bs k × (short k e ≡ false)
 Settled bs e (Refused n) =
     ((n ≡ job-bytes) × NoJob bs) ⊎ ((n ≡ buffer) × ((k : JobCounts) × JobOf bs k × (short k e ≡ true)))
+
+-- ---- a job that is counted already
+
+-- so many of each command take up n bytes, and a job may have n
+abbrev pub takesUp : JobCounts → ℕ → Bool
+takesUp k n = not (ltb most-bytes n) && eqb (symprecFrom k + 10) n
+
+-- a job has no more of any command than bytes
+abbrev pub most-each : JobCounts
+most-each =
+    record {
+      sites = most-bytes;
+      operations = most-bytes;
+      images = most-bytes;
+      targets = most-bytes;
+      rotations = most-bytes;
+      candidates = most-bytes;
+    }
+
+abbrev pub readable : List ℕ → JobCounts → Rooms → Bool
+readable bs k e = takesUp k (length bs) && not (short k e)
+
+-- what the values are after so many of each command were read: nothing where they don't take up the bytes or the lists
+-- have no room for them
+abbrev pub countedGiven : Bool → List ℕ → JobCounts → Given
+countedGiven true bs k = givenOf (partsAt bs k)
+countedGiven false bs k = nothingGiven
+
+abbrev pub ReadCounted : List ℕ → JobCounts → Given → Given → Type 0
+ReadCounted bs k entry exit = HoldsGiven entry exit (countedGiven (readable bs k (roomsOf entry)) bs k)

@@ -1,6 +1,6 @@
 -- A job by places: what stands at a place of the bytes, and the parts that so many of each command are.
 use Prim.Native.Nat.{ℕ, zero, suc, _+_, _*_, _≤_, _<_}
-use mathlib.Core.Path.{_≡_}
+use mathlib.Core.Path.{_≡_, refl, ap}
 use mathlib.Core.List.{List, [], _∷_}
 use lib.ListN.{getD, length}
 use lib.IntN.{ℤ}
@@ -27,6 +27,12 @@ integerAt n bs at = fromComplement n (wordAt n bs at)
 unfoldable pub items : {A : Type 0} → (ℕ → A) → ℕ → ℕ → ℕ → List A
 items f w at zero = []
 items f w at (suc n) = f at ∷ items f w (at + w) n
+
+module _ {A : Type 0} (f : ℕ → A) (w : ℕ) where
+  pub length-items : (at n : ℕ) → length (items f w at n) ≡ n
+  unfolding items
+  length-items at zero = refl
+  length-items at (suc n) = ap suc (length-items (at + w) n)
 
 abbrev pub floatsAt : ℕ → List ℕ → ℕ → List ℕ
 floatsAt k bs at = items (wordAt 8 bs) 8 at k

@@ -8,7 +8,8 @@ ghost use Prim.Native.Nat.{_+_, _<_, _≤_};
 ghost use mathlib.Core.Path.{_≡_};
 ghost use lib.ListN.{length};
 ghost use Rattle.job.specs.Places.{Run, Layout, Opens, Closes, symprecFrom};
-ghost use Rattle.job.specs.Counted.{Decided, Counted};
+ghost use Rattle.job.specs.Counted.{Decided, Counted, moreThan};
+ghost use Rattle.job.specs.Given.{takesUp};
 
 // How many commands of one kind stand one behind the other from a place on; one that is cut is not counted.
 fn count_run(bytes: &[u8], at: usize, command: u8, width: usize) -> usize
@@ -98,8 +99,44 @@ fn closes(bytes: &[u8], at: usize) -> bool
     true
 }
 
+// Whether there are more of a command than a limit says.
+pub fn more_than(most: JobCounts, k: JobCounts) -> bool
+    ensures { λ r. ⌜ r ≡ moreThan most k ⌝ }
+{
+    let sites = most.sites < k.sites;
+    let operations = most.operations < k.operations;
+    let images = most.images < k.images;
+    let targets = most.targets < k.targets;
+    let rotations = most.rotations < k.rotations;
+    let candidates = most.candidates < k.candidates;
+    sites | operations | images | targets | rotations | candidates
+}
+
+// A job has no more of any command than bytes; of so many the place of N is a number that fits.
+const MOST_EACH: JobCounts = JobCounts {
+    sites: MOST_BYTES,
+    operations: MOST_BYTES,
+    images: MOST_BYTES,
+    targets: MOST_BYTES,
+    rotations: MOST_BYTES,
+    candidates: MOST_BYTES,
+};
+
+// Whether so many of each command take up so many bytes, and a job may have these.
+pub(crate) fn takes_up(k: JobCounts, bytes: usize) -> bool
+    ensures { λ r. ⌜ r ≡ takesUp k bytes ⌝ }
+{
+    if MOST_BYTES < bytes {
+        return false;
+    }
+    if more_than(MOST_EACH, k) {
+        return false;
+    }
+    symprec_from(k) + 10 == bytes
+}
+
 // The numbers of commands if the bytes are a job, else 1.
-pub(crate) fn counted(bytes: &[u8]) -> JobRead
+pub fn counted(bytes: &[u8]) -> JobRead
     ensures { λ r. ⌜ Counted (now (bytes .entry)) r ⌝ }
 {
     if MOST_BYTES < bytes.len() {

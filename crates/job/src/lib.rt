@@ -1,6 +1,6 @@
 // The job's bytes: specs/ proves that they have at most one reading, and `read_job` finds it; `count_job` only counts.
 mod fill;
-mod layout;
+pub mod layout;
 mod lists;
 mod operands;
 
@@ -19,8 +19,9 @@ use lent::clear_texts;
 use lent::clear_u8;
 use lent::clear_u16;
 ghost use mathlib.Core.Path.{_≡_};
+ghost use mathlib.Core.Bool.{not, _&&_};
 ghost use Rattle.definitions.specs.WholeCalls.{HoldsGiven, nothingGiven, ReadPromise, CountPromise};
-ghost use Rattle.job.specs.Given.{lent, rooms, shorterTwo, shorterThree, Settled};
+ghost use Rattle.job.specs.Given.{lent, rooms, shorterTwo, shorterThree, Settled, takesUp, ReadCounted};
 ghost use Rattle.job.specs.Given as Given;
 
 // ---- room
@@ -69,6 +70,45 @@ fn short(
     let given = conventional < k.rotations;
     let letters = short_three(k.candidates, candidates, candidate_letters, texts);
     sites | operations | permutations | targets | given | letters
+}
+
+// Whether so many of each command take up so many bytes, and no list is too short for them.
+fn readable(
+    bytes: usize,
+    k: JobCounts,
+    elements: usize,
+    positions: usize,
+    rotations: usize,
+    translations: usize,
+    images: usize,
+    target_rotations: usize,
+    target_translations: usize,
+    conventional: usize,
+    candidates: usize,
+    candidate_letters: usize,
+    texts: usize,
+) -> bool
+    ensures { λ r. ⌜ r ≡ (takesUp k bytes && not (Given.short k
+        (rooms elements positions rotations translations images «target_rotations» «target_translations» conventional
+        candidates «candidate_letters» texts))) ⌝ }
+{
+    if !layout::takes_up(k, bytes) {
+        return false;
+    }
+    !short(
+        k,
+        elements,
+        positions,
+        rotations,
+        translations,
+        images,
+        target_rotations,
+        target_translations,
+        conventional,
+        candidates,
+        candidate_letters,
+        texts,
+    )
 }
 
 // 1 if the bytes are no job, else 10 if a list is too short for it, else the numbers of commands.
@@ -262,4 +302,93 @@ pub fn read_job(
         }
     }
     r
+}
+
+// So many of each command, in lent values: for a caller who has counted them. Zero where they don't take up the bytes
+// or a list is too short for them.
+pub fn read_counted(
+    bytes: &[u8],
+    k: JobCounts,
+    lattice: &mut Basis,
+    t: &mut Linear,
+    shift: &mut Cells,
+    c: &mut Linear,
+    elements: &mut [i32],
+    positions: &mut [Cells],
+    rotations: &mut [Rotation],
+    translations: &mut [Cells],
+    images: &mut [u8],
+    target_rotations: &mut [Rotation],
+    target_translations: &mut [Cells],
+    conventional: &mut [Rotation],
+    candidates: &mut [u16],
+    candidate_letters: &mut [u8],
+    texts: &mut [Text],
+    symprec: &mut f64,
+)
+    ensures { λ _. ⌜ ReadCounted (now (bytes .entry)) k
+        (lent (now (lattice .entry)) (now (t .entry)) (now (shift .entry)) (now (c .entry)) (now (elements .entry))
+        (now (positions .entry)) (now (rotations .entry)) (now (translations .entry)) (now (images .entry))
+        (now («target_rotations» .entry)) (now («target_translations» .entry)) (now (conventional .entry))
+        (now (candidates .entry)) (now («candidate_letters» .entry)) (now (texts .entry)) (now (symprec .entry)))
+        (lent (now (lattice .exit)) (now (t .exit)) (now (shift .exit)) (now (c .exit)) (now (elements .exit))
+        (now (positions .exit)) (now (rotations .exit)) (now (translations .exit)) (now (images .exit))
+        (now («target_rotations» .exit)) (now («target_translations» .exit)) (now (conventional .exit))
+        (now (candidates .exit)) (now («candidate_letters» .exit)) (now (texts .exit)) (now (symprec .exit))) ⌝ }
+{
+    if readable(
+        bytes.len(),
+        k,
+        elements.len(),
+        positions.len(),
+        rotations.len(),
+        translations.len(),
+        images.len(),
+        target_rotations.len(),
+        target_translations.len(),
+        conventional.len(),
+        candidates.len(),
+        candidate_letters.len(),
+        texts.len(),
+    ) {
+        fill::fill(
+            bytes,
+            k,
+            lattice,
+            t,
+            shift,
+            c,
+            elements,
+            positions,
+            rotations,
+            translations,
+            images,
+            target_rotations,
+            target_translations,
+            conventional,
+            candidates,
+            candidate_letters,
+            texts,
+            symprec,
+        );
+    } else {
+        refuse(
+            lattice,
+            t,
+            shift,
+            c,
+            elements,
+            positions,
+            rotations,
+            translations,
+            images,
+            target_rotations,
+            target_translations,
+            conventional,
+            candidates,
+            candidate_letters,
+            texts,
+            symprec,
+        );
+    }
 }

@@ -3,9 +3,9 @@ use Prim.Native.Nat.{ℕ, _*_, _≤_}
 use mathlib.Core.Path.{_≡_, refl, subst}
 use mathlib.Core.Bool.{Bool, true, false, _||_}
 use native.Mathlib.Omega.{arith}
-use borrow.Author.Tests.{le-ltb, ltb-false, eqb-true, not-false}
+use borrow.Author.Tests.{ltb-false, eqb-true, not-false}
 use lib.ListN.{length, length-map}
-use lib.Dec.{T, ltb}
+use lib.Dec.{T}
 use Rattle.definitions.specs.declared.JobCounts.{JobCounts}
 use Rattle.definitions.specs.Limits.{tooManySites, notSome, tooManyCandidates}
 use Rattle.definitions.specs.Limits.{most-sites, most-operations, most-images, most-candidates}
@@ -14,48 +14,20 @@ use Rattle.definitions.specs.Lent.{unlike}
 use Rattle.definitions.specs.Standardize.{badCounts}
 use Rattle.definitions.specs.WholeCalls.{countsOf}
 use Rattle.laws.specs.Limits.{few, few-entries}
-use Rattle.laws.specs.Tests.{so, not-so, neither, neither-left, neither-right}
+use Rattle.laws.specs.Tests.{so, not-so, neither-left, neither-right}
+use Rattle.job.specs.Counted.{moreThan, within-not}
 
--- more of a command than there may be
-abbrev pub tooMany : JobCounts → Bool
-tooMany k =
-    ltb most-sites (k .sites)
-    || ltb most-operations (k .operations)
-    || ltb most-images (k .images)
-    || ltb most-operations (k .targets)
-    || ltb most-operations (k .rotations)
-    || ltb most-candidates (k .candidates)
-
--- not more of any
-pub record Few (k : JobCounts) : Type 0 where
-  pub sites : k .sites ≤ most-sites
-  pub operations : k .operations ≤ most-operations
-  pub images : k .images ≤ most-images
-  pub targets : k .targets ≤ most-operations
-  pub rotations : k .rotations ≤ most-operations
-  pub candidates : k .candidates ≤ most-candidates
-
-module _ (k : JobCounts) (h : tooMany k ≡ false) where
-  pub few-of : Few k
-  few-of =
-      let a = ltb most-sites (k .sites) in
-      let b = ltb most-operations (k .operations) in
-      let c = ltb most-images (k .images) in
-      let d = ltb most-operations (k .targets) in
-      let e = ltb most-operations (k .rotations) in
-      let f = ltb most-candidates (k .candidates) in
-      let five : (a || b || c || d || e) ≡ false = neither-left _ f h in
-      let four : (a || b || c || d) ≡ false = neither-left _ e five in
-      let three : (a || b || c) ≡ false = neither-left _ d four in
-      let two : (a || b) ≡ false = neither-left _ c three in
-      record {
-        sites = ltb-false _ _ (neither-left a b two);
-        operations = ltb-false _ _ (neither-right a b two);
-        images = ltb-false _ _ (neither-right (a || b) c three);
-        targets = ltb-false _ _ (neither-right (a || b || c) d four);
-        rotations = ltb-false _ _ (neither-right (a || b || c || d) e five);
-        candidates = ltb-false _ _ (neither-right (a || b || c || d || e) f h);
-      }
+-- the most of each command that a legal job may have
+abbrev pub most-legal : JobCounts
+most-legal =
+    record {
+      sites = most-sites;
+      operations = most-operations;
+      images = most-images;
+      targets = most-operations;
+      rotations = most-operations;
+      candidates = most-candidates;
+    }
 
 by-cases : (b : Bool) → (b ≡ false → ⊥) → T b
 by-cases true h = tt
@@ -122,19 +94,19 @@ module _ (p : Parts) where
         let f = few-entries n k some-operations sites-few in
         omega (arith, u, f)
 
-    not-many : tooMany (countsOf p) ≡ false
+    not-many : moreThan most-legal (countsOf p) ≡ false
     not-many =
-        neither
-        (neither
-        (neither
-        (neither
-        (neither (le-ltb most-sites n sites-few) (le-ltb most-operations k (few k some-operations)))
-        (le-ltb most-images _ images-few))
-        (le-ltb most-operations _ targets-few))
-        (le-ltb most-operations _ rotations-few))
-        (neither-right
-        (tooManySites n || notSome k || notSome (length (p .targets)) || notSome (length (p .rotations))) _ five)
+        within-not most-legal (countsOf p)
+        (record {
+          sites = sites-few;
+          operations = few k some-operations;
+          images = images-few;
+          targets = targets-few;
+          rotations = rotations-few;
+          candidates = ltb-false most-candidates _ (neither-right
+              (tooManySites n || notSome k || notSome (length (p .targets)) || notSome (length (p .rotations))) _ five);
+        })
 
   -- a job of more is refused with 2
-  pub many-bad : tooMany (countsOf p) ≡ true → T (badCounts (jobOf p))
+  pub many-bad : moreThan most-legal (countsOf p) ≡ true → T (badCounts (jobOf p))
   many-bad e = subst T bad-is (by-cases bad (λ h. not-so (not-many h) (so e)))

@@ -1,38 +1,32 @@
 -- Lists with just the room of a job: it is read into them, and they are its lists.
-use Prim.Native.Nat.{ℕ, _-_, _≤_}
+use Prim.Native.Nat.{ℕ, _+_, _-_, _≤_}
 use mathlib.Core.Path.{_≡_, refl, sym, ap, _∙_, subst}
-use mathlib.Core.Bool.{false}
+use mathlib.Core.Bool.{true, false}
 use mathlib.Core.List.{List, [], _∷_, _++_, map, append-nil}
-use mathlib.Core.Logic.{⊎-elim}
 use native.Mathlib.Omega.{arith}
-use borrow.Author.Tests.{le-ltb}
+use borrow.Author.Tests.{le-ltb, eq-eqb}
 use lib.ListN.{length, length-map, replicate, length-replicate}
 use lib.IntN.{pos}
-use lib.Dec.{T}
 use Rattle.definitions.specs.declared.JobCounts.{JobCounts}
-use Rattle.definitions.specs.declared.JobRead.{JobRead}
 use Rattle.definitions.specs.declared.Position.{Position}
 use Rattle.definitions.specs.declared.Standardized.{Standardized}
 use Rattle.definitions.specs.Lists.{any}
-use Rattle.definitions.specs.Limits.{shorterThan}
-use Rattle.definitions.specs.Refusal.{Condition, _when_, Applies, job-bytes, buffer, Holds, accepted, refused, Returns}
-use Rattle.definitions.specs.Job.{Parts, IsJob, NoJob, positionOf, rowsOf}
+use Rattle.definitions.specs.Limits.{shorterThan, most-bytes}
+use Rattle.definitions.specs.Refusal.{Holds}
+use Rattle.definitions.specs.Job.{Parts, positionOf, rowsOf}
 use Rattle.definitions.specs.Lent.{cellsOf, zeroCells, zeroMatrix}
-use Rattle.definitions.specs.Standardize.{OfParts}
-use Rattle.definitions.specs.WholeCalls.{Given, givenOf, zeroText, tooShortFor, HoldsGiven, readConditions, countsOf}
-use Rattle.definitions.specs.WholeCalls.{ReadPromise, AnswerCells, ListsPromise, BytesPromise}
+use Rattle.definitions.specs.WholeCalls.{Given, givenOf, zeroText, HoldsGiven, countsOf, AnswerCells, ListsPromise}
+use Rattle.definitions.specs.WholeCalls.{BytesPromise}
 use Rattle.laws.specs.Lists.{any-none}
-use Rattle.laws.specs.Order.{applies-last}
-use Rattle.laws.specs.Tests.{not-so, neither}
-use Rattle.job_laws.specs.Decode.{job-unique}
-use Rattle.job.specs.Given.{Rooms, roomsOf}
+use Rattle.laws.specs.Tests.{neither}
+use Rattle.job.specs.Places.{partsAt, symprecFrom}
+use Rattle.job.specs.Counted.{JobOf, counts-are, not-no-job}
+use Rattle.job.specs.Given.{Rooms, roomsOf, short, readable, countedGiven, ReadCounted}
 use Rattle.job_standardize.specs.Bytes.{bytes-promise}
-use Rattle.job_standardize.specs.Counted.{CountedJob}
 
 -- as many entries in each list as the job has commands
-pub record JustRoom (bs : List ℕ) (e : Rooms) : Type 0 where
-  pub k : JobCounts
-  pub job : CountedJob bs k
+pub record JustRoom (bs : List ℕ) (k : JobCounts) (e : Rooms) : Type 0 where
+  pub job : JobOf bs k
   pub elements : e .elements ≡ k .sites
   pub positions : e .positions ≡ k .sites
   pub rotations : e .rotations ≡ k .operations
@@ -80,109 +74,100 @@ itself l zero old cells h e =
     let none-left : length old - length l ≡ 0 = omega (arith, e) in
     h ∙ ap (λ n. l ++ replicate n zero) none-left ∙ append-nil l
 
-module _ (bs : List ℕ) (entry exit : Given) (just : JustRoom bs (roomsOf entry)) where
-  module _ (p : Parts) (i : IsJob bs p) where
-    is : countsOf p ≡ just .k
-    is = ap countsOf (job-unique bs p (just .job .parts) i (just .job .are)) ∙ just .job .counts
+module _ (bs : List ℕ) (k : JobCounts) (entry exit : Given) (just : JustRoom bs k (roomsOf entry)) where
+  fits : short k (roomsOf entry) ≡ false
+  fits =
+      neither
+      (neither
+      (neither
+      (neither
+      (neither
+      (two-rooms (k .sites) _ _ (just .elements) (just .positions))
+      (two-rooms (k .operations) _ _ (just .rotations) (just .translations)))
+      (room (k .images) _ (just .images)))
+      (two-rooms (k .targets) _ _ (just .targetRotations) (just .targetTranslations)))
+      (room (k .rotations) _ (just .conventional)))
+      (three-rooms (k .candidates) _ _ _ (just .multiplicities) (just .letters) (just .texts))
 
-    sites : {l : ℕ} → l ≡ just .k .sites → l ≡ length (p .sites)
-    sites e = e ∙ ap (λ x. x .sites) (sym is)
+  is-readable : readable bs k (roomsOf entry) ≡ true
+  is-readable = rw (le-ltb most-bytes (length bs) (just .job .few), eq-eqb (symprecFrom k + 10) (length bs) (just .job .room), fits)
 
-    operations : {l : ℕ} → l ≡ just .k .operations → l ≡ length (p .operations)
-    operations e = e ∙ ap (λ x. x .operations) (sym is)
+  held : ReadCounted bs k entry exit → HoldsGiven entry exit (givenOf (partsAt bs k))
+  held h = subst (HoldsGiven entry exit) (ap (λ b. countedGiven b bs k) is-readable) h
 
-    images : {l : ℕ} → l ≡ just .k .images → l ≡ length (p .images)
-    images e = e ∙ ap (λ x. x .images) (sym is)
+  abbrev p : Parts
+  p = partsAt bs k
 
-    targets : {l : ℕ} → l ≡ just .k .targets → l ≡ length (p .targets)
-    targets e = e ∙ ap (λ x. x .targets) (sym is)
+  is : countsOf p ≡ k
+  is = counts-are bs k
 
-    rotations : {l : ℕ} → l ≡ just .k .rotations → l ≡ length (p .rotations)
-    rotations e = e ∙ ap (λ x. x .rotations) (sym is)
+  sites : {l : ℕ} → l ≡ k .sites → l ≡ length (p .sites)
+  sites e = e ∙ ap (λ x. x .sites) (sym is)
 
-    candidates : {l : ℕ} → l ≡ just .k .candidates → l ≡ length (p .candidates)
-    candidates e = e ∙ ap (λ x. x .candidates) (sym is)
+  operations : {l : ℕ} → l ≡ k .operations → l ≡ length (p .operations)
+  operations e = e ∙ ap (λ x. x .operations) (sym is)
 
-    fits : tooShortFor entry p ≡ false
-    fits =
-        neither
-        (neither
-        (neither
-        (neither
-        (neither
-        (two-rooms (length (p .sites)) _ _ (sites (just .elements)) (sites (just .positions)))
-        (two-rooms (length (p .operations)) _ _ (operations (just .rotations)) (operations (just .translations))))
-        (room (length (p .images)) _ (images (just .images))))
-        (two-rooms (length (p .targets)) _ _ (targets (just .targetRotations)) (targets (just .targetTranslations))))
-        (room (length (p .rotations)) _ (rotations (just .conventional))))
-        (three-rooms (length (p .candidates)) _ _ _ (candidates (just .multiplicities)) (candidates (just .letters))
-        (candidates (just .texts)))
+  images : {l : ℕ} → l ≡ k .images → l ≡ length (p .images)
+  images e = e ∙ ap (λ x. x .images) (sym is)
 
-    lists-are : HoldsGiven entry exit (givenOf p) → exit ≡ givenOf p
-    unfolding givenOf
-    lists-are h = λ j.
-        record {
-          lattice = h .lattice j;
-          t = h .t j;
-          shift = h .shift j;
-          c = h .c j;
-          elements =
-              exact (λ s. s .element) (p .sites) (pos 0) (entry .elements) (exit .elements) (h .elements)
-              (sites (just .elements)) j;
-          positions =
-              exact (λ s. cellsOf (positionOf (s .position))) (p .sites) zeroCells (entry .positions) (exit .positions)
-              (h .positions) (sites (just .positions)) j;
-          rotations =
-              exact (λ o. rowsOf (o .rotation)) (p .operations) zeroMatrix (entry .rotations) (exit .rotations)
-              (h .rotations) (operations (just .rotations)) j;
-          translations =
-              exact (λ o. cellsOf (positionOf (o .translation))) (p .operations) zeroCells (entry .translations)
-              (exit .translations) (h .translations) (operations (just .translations)) j;
-          images = itself (p .images) 0 (entry .images) (exit .images) (h .images) (images (just .images)) j;
-          targetRotations =
-              exact (λ o. rowsOf (o .rotation)) (p .targets) zeroMatrix (entry .targetRotations) (exit .targetRotations)
-              (h .targetRotations) (targets (just .targetRotations)) j;
-          targetTranslations =
-              exact (λ o. cellsOf (positionOf (o .translation))) (p .targets) zeroCells (entry .targetTranslations)
-              (exit .targetTranslations) (h .targetTranslations) (targets (just .targetTranslations)) j;
-          conventional =
-              exact rowsOf (p .rotations) zeroMatrix (entry .conventional) (exit .conventional) (h .conventional)
-              (rotations (just .conventional)) j;
-          multiplicities =
-              exact (λ w. w .multiplicity) (p .candidates) 0 (entry .multiplicities) (exit .multiplicities)
-              (h .multiplicities) (candidates (just .multiplicities)) j;
-          letters =
-              exact (λ w. w .letter) (p .candidates) 0 (entry .letters) (exit .letters) (h .letters)
-              (candidates (just .letters)) j;
-          texts =
-              exact (λ w. w .text) (p .candidates) zeroText (entry .texts) (exit .texts) (h .texts)
-              (candidates (just .texts)) j;
-          symprec = h .symprec j;
-        }
+  targets : {l : ℕ} → l ≡ k .targets → l ≡ length (p .targets)
+  targets e = e ∙ ap (λ x. x .targets) (sym is)
 
-  abbrev noJob : Condition
-  noJob = job-bytes when NoJob bs
+  rotations : {l : ℕ} → l ≡ k .rotations → l ≡ length (p .rotations)
+  rotations e = e ∙ ap (λ x. x .rotations) (sym is)
 
-  abbrev noRoom : Condition
-  noRoom = buffer when OfParts bs (λ p. T (tooShortFor entry p))
+  candidates : {l : ℕ} → l ≡ k .candidates → l ≡ length (p .candidates)
+  candidates e = e ∙ ap (λ x. x .candidates) (sym is)
 
-  not-refused : (n : ℕ) → Returns (readConditions bs entry) (IsJob bs) (refused n) → ⊥
-  unfolding Returns Applies
-  not-refused n r =
-      ⊎-elim
-      (λ a. ⊎-elim (λ x. x) (λ x. just .job .a-job (x .1)) (applies-last [] noJob n a))
-      (λ x. not-so (fits (x .1 .0) (x .1 .1)) (x .1 .2))
-      (applies-last (noJob ∷ []) noRoom n (r .0))
+  lists-are : HoldsGiven entry exit (givenOf p) → exit ≡ givenOf p
+  unfolding givenOf
+  lists-are h = λ j.
+      record {
+        lattice = h .lattice j;
+        t = h .t j;
+        shift = h .shift j;
+        c = h .c j;
+        elements =
+            exact (λ s. s .element) (p .sites) (pos 0) (entry .elements) (exit .elements) (h .elements)
+            (sites (just .elements)) j;
+        positions =
+            exact (λ s. cellsOf (positionOf (s .position))) (p .sites) zeroCells (entry .positions) (exit .positions)
+            (h .positions) (sites (just .positions)) j;
+        rotations =
+            exact (λ o. rowsOf (o .rotation)) (p .operations) zeroMatrix (entry .rotations) (exit .rotations)
+            (h .rotations) (operations (just .rotations)) j;
+        translations =
+            exact (λ o. cellsOf (positionOf (o .translation))) (p .operations) zeroCells (entry .translations)
+            (exit .translations) (h .translations) (operations (just .translations)) j;
+        images = itself (p .images) 0 (entry .images) (exit .images) (h .images) (images (just .images)) j;
+        targetRotations =
+            exact (λ o. rowsOf (o .rotation)) (p .targets) zeroMatrix (entry .targetRotations) (exit .targetRotations)
+            (h .targetRotations) (targets (just .targetRotations)) j;
+        targetTranslations =
+            exact (λ o. cellsOf (positionOf (o .translation))) (p .targets) zeroCells (entry .targetTranslations)
+            (exit .targetTranslations) (h .targetTranslations) (targets (just .targetTranslations)) j;
+        conventional =
+            exact rowsOf (p .rotations) zeroMatrix (entry .conventional) (exit .conventional) (h .conventional)
+            (rotations (just .conventional)) j;
+        multiplicities =
+            exact (λ w. w .multiplicity) (p .candidates) 0 (entry .multiplicities) (exit .multiplicities)
+            (h .multiplicities) (candidates (just .multiplicities)) j;
+        letters =
+            exact (λ w. w .letter) (p .candidates) 0 (entry .letters) (exit .letters) (h .letters)
+            (candidates (just .letters)) j;
+        texts =
+            exact (λ w. w .text) (p .candidates) zeroText (entry .texts) (exit .texts) (h .texts)
+            (candidates (just .texts)) j;
+        symprec = h .symprec j;
+      }
 
   -- what the call on the lists promises after the reading, the call on bytes does
   pub read-promise :
-      (r : JobRead) → ReadPromise bs entry exit r → (old new : AnswerCells) (s : Standardized) →
+      ReadCounted bs k entry exit → (old new : AnswerCells) (s : Standardized) →
       ListsPromise exit old new s → BytesPromise bs old new s
-  unfolding Returns
-  read-promise r (accepted p, (ret, held), told) old new s promised =
-      bytes-promise bs p (ret .1) (just .job .a-job) old new s
-      (subst (λ x. ListsPromise x old new s) (lists-are p (ret .1) held) promised)
-  read-promise r (refused n, (ret, zero), told) old new s promised = absurd (not-refused n ret)
+  read-promise h old new s promised =
+      bytes-promise bs p (just .job .is) (not-no-job bs k (just .job)) old new s
+      (subst (λ x. ListsPromise x old new s) (lists-are (held h)) promised)
 
 -- ---- the shift as a position
 

@@ -12,8 +12,9 @@ use definitions::limits::MOST_IMAGES;
 use definitions::limits::MOST_OPERATIONS;
 use definitions::limits::MOST_SITES;
 use definitions::refusal;
-use job::count_job;
-use job::read_job;
+use job::layout::counted;
+use job::layout::more_than;
+use job::read_counted;
 use math_real::position::position_of;
 use symmetrize_standardize::clear_answer;
 use symmetrize_standardize::standardize;
@@ -21,8 +22,9 @@ ghost use mathlib.Core.Path.{_≡_};
 ghost use lib.ListN.{length};
 ghost use Rattle.definitions.specs.WholeCalls.{BytesPromise};
 ghost use Rattle.job.specs.Given.{rooms};
-ghost use Rattle.job_standardize.specs.Counts.{tooMany, Few};
-ghost use Rattle.job_standardize.specs.Counted.{CountedJob, Legal};
+ghost use Rattle.job.specs.Counted.{JobOf, Within};
+ghost use Rattle.job_standardize.specs.Counts.{most-legal};
+ghost use Rattle.job_standardize.specs.Counted.{Legal};
 ghost use Rattle.job_standardize.specs.Rooms.{JustRoom};
 
 // Most jobs have no more images; zeroing the others would cost them more than the reading.
@@ -30,27 +32,24 @@ const USUAL_IMAGES: usize = 1024;
 
 // ---- counts
 
-// Whether there are more of a command than a legal job may have.
-fn too_many(k: JobCounts) -> bool
-    ensures { λ r. ⌜ r ≡ tooMany k ⌝ }
-{
-    let sites = MOST_SITES < k.sites;
-    let operations = MOST_OPERATIONS < k.operations;
-    let images = MOST_IMAGES < k.images;
-    let targets = MOST_OPERATIONS < k.targets;
-    let rotations = MOST_OPERATIONS < k.rotations;
-    let candidates = MOST_CANDIDATES < k.candidates;
-    sites | operations | images | targets | rotations | candidates
-}
+// The most of each command that a legal job may have.
+const MOST_LEGAL: JobCounts = JobCounts {
+    sites: MOST_SITES,
+    operations: MOST_OPERATIONS,
+    images: MOST_IMAGES,
+    targets: MOST_OPERATIONS,
+    rotations: MOST_OPERATIONS,
+    candidates: MOST_CANDIDATES,
+};
 
 // How many of each command there are: 1 if the bytes are no job, 2 if there are too many.
 fn legal_counts(bytes: &[u8]) -> JobRead
     ensures { λ r. ⌜ Legal (now (bytes .entry)) r ⌝ }
 {
-    let r = count_job(bytes);
+    let r = counted(bytes);
     match r {
         JobRead::Read(k) => {
-            if too_many(k) {
+            if more_than(MOST_LEGAL, k) {
                 return JobRead::Refused(refusal::COUNTS);
             }
             JobRead::Read(k)
@@ -64,6 +63,7 @@ fn legal_counts(bytes: &[u8]) -> JobRead
 // The job is read into lists that have just its room, so that the reading cannot refuse, and the call on lists answers.
 fn standardize_read(
     bytes: &[u8],
+    k: JobCounts,
     elements: &mut [i32],
     positions: &mut [Cells],
     rotations: &mut [Rotation],
@@ -87,7 +87,7 @@ fn standardize_read(
     listed_basis: &mut Basis,
     factors: &mut [i16; 3],
 ) -> Standardized
-    requires { ⌜ JustRoom (now bytes)
+    requires { ⌜ JustRoom (now bytes) k
         (rooms (length (now elements)) (length (now positions)) (length (now rotations)) (length (now translations))
         (length (now images)) (length (now «target_rotations»)) (length (now «target_translations»))
         (length (now conventional)) (length (now candidates)) (length (now «candidate_letters»))
@@ -126,8 +126,9 @@ fn standardize_read(
     let mut shift = [0.0; 3];
     let mut c = [[0i8; 3]; 3];
     let mut symprec = 0.0;
-    read_job(
+    read_counted(
         bytes,
+        k,
         &mut lattice,
         &mut t,
         &mut shift,
@@ -193,7 +194,7 @@ fn standardize_counted(
     listed_basis: &mut Basis,
     factors: &mut [i16; 3],
 ) -> Standardized
-    requires { ⌜ CountedJob (now bytes) k × Few k × (length (now images) ≡ k .images) ⌝ }
+    requires { ⌜ JobOf (now bytes) k × Within most-legal k × (length (now images) ≡ k .images) ⌝ }
     ensures { λ r. ⌜
         BytesPromise (now (bytes .entry))
         (record {
@@ -240,6 +241,7 @@ fn standardize_counted(
     let w = k.candidates;
     standardize_read(
         bytes,
+        k,
         &mut elements[..n],
         &mut positions[..n],
         &mut rotations[..o],

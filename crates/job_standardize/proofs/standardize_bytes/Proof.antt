@@ -7,8 +7,9 @@ use lib.Seq.{length-take-le}
 use Rattle.definitions.specs.declared.JobRead.the-variants.{Refused}
 use Rattle.definitions.specs.WholeCalls.{AnswerCells}
 use Rattle.definitions.specs.Limits.{most-images}
-use Rattle.job_standardize.specs.Counts.{Few}
-use Rattle.job_standardize.specs.Counted.{CountedJob, Legal}
+use Rattle.job.specs.Counted.{JobOf, Within}
+use Rattle.job_standardize.specs.Counts.{most-legal}
+use Rattle.job_standardize.specs.Counted.{Legal}
 use Rattle.job_standardize.specs.Rooms.{front-length}
 use borrow.Author.Needs.{needs}
 use Rattle.job_standardize.proofs.standardize_bytes.Statement.{statement}
@@ -17,7 +18,7 @@ use Rattle.job_standardize.proofs.standardize_bytes.Tie as tie
 abbrev bytes : tie.After-counted → List ℕ
 bytes t = t .before .before .before .before .before .before .before .before .args .bytes .now
 
-abbrev found : (t : tie.After-counted) → CountedJob (bytes t) (t .counted .given .0 .0) × Few (t .counted .given .0 .0)
+abbrev found : (t : tie.After-counted) → JobOf (bytes t) (t .counted .given .0 .0) × Within most-legal (t .counted .given .0 .0)
 found t = subst (Legal (bytes t)) (t .counted .given .1) (t .before .before .legal-counts .ensures)
 
 abbrev lent : tie.Start → AnswerCells

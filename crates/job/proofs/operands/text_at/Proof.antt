@@ -8,7 +8,8 @@ use borrow.Author.Needs.{needs}
 use Rattle.laws.specs.Filling.{put-step, put-end}
 use Rattle.definitions.specs.WholeCalls.{zeroText}
 use Rattle.job.specs.Places.{wordAt, textAt}
-use Rattle.job.proofs.Items.{length-items, items-at}
+use Rattle.job.specs.Places.{length-items}
+use Rattle.job.proofs.Items.{items-at}
 use Rattle.job.proofs.Words.{word1-is}
 use Rattle.job.proofs.operands.text_at.Statement.{statement}
 use Rattle.job.proofs.operands.text_at.Tie as tie
