@@ -1,9 +1,11 @@
-// The verdict of the label call: its refusals in their order, decided before anything is written.
+// The verdict of the label call, its refusals in their order, and the test of the step that labels: each decided before
+// anything is written.
 ghost use mathlib.Core.Path.{_≡_};
 ghost use mathlib.Core.List.{[], _∷_};
 ghost use Rattle.definitions.specs.Refusal.{Checked};
 ghost use Rattle.definitions.specs.Lent.{badPermutationCounts, badImages};
 ghost use Rattle.definitions.specs.SiteCalls.{badMapping, labelConditions};
+ghost use Rattle.base_cell.specs.Grouping.{groupable};
 ghost use mathlib.Core.Bool.{_||_};
 use crate::labels::number;
 use base_permutation::all_permutations;
@@ -85,4 +87,37 @@ pub(crate) fn label_verdict(
         return Verdict::Refused(refusal::BUFFER);
     }
     Verdict::Accepted
+}
+
+// The step's test: as `label_verdict`, without the costly one, that the images are permutations.
+pub(crate) fn can_group(
+    sites: usize,
+    count: usize,
+    images: &[u8],
+    mapping: &[u16],
+    labels: usize,
+    multiplicities: usize,
+) -> bool
+    ensures { λ r. ⌜
+        r ≡ groupable
+        (record { sites = sites; count = count; images = now (images .entry); mapping = now (mapping .entry) })
+        (labels ∷ multiplicities ∷ []) ⌝ }
+{
+    if bad_counts(sites, count, images) {
+        return false;
+    }
+    if bad_mapping(sites, mapping) {
+        return false;
+    }
+    let listed = mapping.len();
+    if MOST_LISTED < listed {
+        return false;
+    }
+    if labels < listed {
+        return false;
+    }
+    if multiplicities < listed {
+        return false;
+    }
+    true
 }

@@ -25,13 +25,14 @@ use Rattle.definitions.specs.Cell.{siteMapping, listedPositions, listedPoints, 
 use Rattle.definitions.specs.Orbit.{Labels, multiplicities, orbits}
 use Rattle.definitions.specs.Wyckoff.{Space, AreSpaces, sitesOf, orbitWithoutFit, letters}
 use Rattle.definitions.specs.Calls.{centringConditions, alignConditions, AlignPromise, LatticePromise, FactorsPromise}
-use Rattle.definitions.specs.SiteCalls.{ListingCells, HoldsListing, listingAt, CopiesListed, LabelArguments, LetterCells, LabelPromise}
+use Rattle.definitions.specs.SiteCalls.{ListingCells, HoldsListing, listingAt, CopiesListed, LabelArguments, LetterCells}
 use Rattle.definitions.specs.SiteCalls.{SpaceCells, spaceRooms, HoldsSpaces, prepareAllConditions, PrepareAllPromise, Assigned}
 use Rattle.definitions.specs.Standardize.{Rooms, siteCount, Work, answerOf, IsAnswer}
 use Rattle.definitions.specs.WholeCalls.{Given, jobFrom, AnswerCells, roomsOf, HoldsAnswer, nothingAnswered, ListsPromise}
 use Rattle.laws.specs.Verdicts.{Passed, refused-with, accepted-with}
 use Rattle.math_matrix.specs.Laws.{Three}
 use Rattle.math_snf_laws.specs.Unique.{run-unique}
+use Rattle.base_cell.specs.Grouping.{OrbitsLabelled}
 use Rattle.base_cell.proofs.Tables.{length-multiplicities}
 use Rattle.base_transformation_laws.specs.Listed.{positions-count as listed-count}
 use Rattle.symmetrize_standardize_laws.specs.Found.{positions-count}
@@ -334,11 +335,11 @@ module _ (x : Given) (e z : AnswerCells) (shape : Three (x .c)) (p : Passed (con
       let (ss, are, tables) = spaces-held x rooms p before after v₁ rooms₁ prepared in
       let (pb, lb) = bases-held x rooms p basis (z .primitiveBasis) (z .listedBasis) v₃ lattice in
       let labelled =
-      subst (λ l. LabelPromise (labelling l (siteMapping n m)) (labelCells (letterCells e)) (labelCells (letterCells z)) (orb .labelled)) same-images
-      (subst (λ ms. LabelPromise (labelling is ms) (labelCells (letterCells e)) (labelCells (letterCells z)) (orb .labelled)) (mapping-front l)
+      subst (λ l. OrbitsLabelled (labelling l (siteMapping n m)) (labelCells (letterCells e)) (labelCells (letterCells z))) same-images
+      (subst (λ ms. OrbitsLabelled (labelling is ms) (labelCells (letterCells e)) (labelCells (letterCells z))) (mapping-front l)
       (orb .labels)) in
       let (ls, labels, long, lh, mh) =
-      labels-held x rooms p (labelCells (letterCells e)) (labelCells (letterCells z)) (orb .labelled) (roomy .labels) (roomy .multiplicities) labelled in
+      labels-held x rooms p (labelCells (letterCells e)) (labelCells (letterCells z)) (roomy .labels) (roomy .multiplicities) labelled in
       let fs = factors-held x rooms p (z .factors) v₄ factors (l .run) in
       let sited : length (take (n * m) (z .mapping)) ≡ n * m = ap length (mapping-front l) ∙ length-mapping n m in
       concluded l ss are ls labels long lh mh pb lb fs whole

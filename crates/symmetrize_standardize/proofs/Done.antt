@@ -22,20 +22,20 @@ use Rattle.definitions.specs.Cell.{siteMapping}
 use Rattle.definitions.specs.Orbit.{Labels, multiplicities}
 use Rattle.definitions.specs.Calls.{alignConditions, pointsConditions, AlignPromise, transformedCells, symmetrizedCells, PositionsPromise, PointsPromise, PointsLent}
 use Rattle.definitions.specs.SiteCalls.{ListingCells, listingRooms, listable, listingAt, nothingListed, HoldsListing, CopiesListed}
-use Rattle.definitions.specs.SiteCalls.{LabelArguments, LabelCells, labelRooms, labelConditions, IsLabelled, HoldsLabels, nothingLabelled, LabelPromise}
+use Rattle.definitions.specs.SiteCalls.{LabelCells}
 use Rattle.definitions.specs.Standardize.{Rooms, siteCount}
 use Rattle.definitions.specs.WholeCalls.{Given, jobFrom}
 use Rattle.laws.specs.Verdicts.{Passed}
 use Rattle.math_matrix.specs.Laws.{Three}
+use Rattle.base_cell.specs.Grouping.{OrbitsLabelled}
 use Rattle.base_cell.specs.Maps.{permutations-map}
 use Rattle.base_transformation_laws.specs.Covered.{run-points-count}
 use Rattle.symmetrize_standardize_laws.specs.Found.{positions-count, aligned-permutations}
-use Rattle.symmetrize_standardize.proofs.General.{promised-checked, promised-answer}
 use Rattle.symmetrize_standardize.proofs.Facts.{site-count, of-operations, of-targets, of-positions}
 use Rattle.symmetrize_standardize.proofs.Ladder.{conditions, alignedRoom}
 use Rattle.symmetrize_standardize.proofs.Parts.{none-pass, parts-are, length-parts, front-of, cells-back, length-cells}
 use Rattle.symmetrize_standardize.proofs.Past.{length-mapping, known-like, known-within, known-regular, known-copies}
-use Rattle.symmetrize_standardize.proofs.Past.{known-past, align-accepts, points-accept, positions-accept, label-accepts}
+use Rattle.symmetrize_standardize.proofs.Past.{known-past, align-accepts, points-accept, positions-accept, labels-left}
 
 module _ (x : Given) (rooms : Rooms) (p : Passed (conditions x rooms) 12) where
   abbrev j : Job
@@ -151,26 +151,22 @@ module _ (x : Given) (rooms : Rooms) (p : Passed (conditions x rooms) 12) where
   -- ---- the labels
 
   pub labels-held :
-      (entry exit : LabelCells) (v : Verdict) → length (x .positions) * copies (x .c) ≤ length (entry .labels) →
+      (entry exit : LabelCells) → length (x .positions) * copies (x .c) ≤ length (entry .labels) →
       length (x .positions) * copies (x .c) ≤ length (entry .multiplicities) →
-      LabelPromise
+      OrbitsLabelled
       (record {
         sites = length (x .positions);
         count = length (x .targetRotations);
         images = images;
         mapping = siteMapping (length (x .positions)) (copies (x .c));
-      }) entry exit v →
+      }) entry exit →
       (ls : List ℕ) × Labels (aligned (jobFrom x)) (siteMapping (siteCount (jobFrom x)) (copies (x .c))) ls
       × (length ls ≡ length (x .positions) * copies (x .c))
       × Holds 0 (entry .labels) (exit .labels) ls
       × Holds 0 (entry .multiplicities) (exit .multiplicities) (multiplicities ls)
-  labels-held entry exit v a b h =
+  labels-held entry exit a b h =
       let mapping = siteMapping n m in
-      let args : LabelArguments = record { sites = n; count = k; images = images; mapping = mapping } in
-      let cs = labelConditions args (labelRooms entry) in
-      let checked = promised-checked cs (IsLabelled args) (HoldsLabels entry exit) (HoldsLabels entry exit nothingLabelled) v h in
-      let e = label-accepts x rooms p images images-long images-are v (length (entry .labels)) (length (entry .multiplicities)) a b checked in
-      let (answer, is, held) = promised-answer cs (IsLabelled args) (HoldsLabels entry exit) (HoldsLabels entry exit nothingLabelled) v e h in
+      let (answer, is, held) = labels-left x rooms p images images-long entry exit a b h in
       let ls = answer .labels in (
         ls,
         subst (λ s. Labels (aligned j) (siteMapping s m) ls) (sym (site-count x (known-like x rooms p))) (subst (λ ps. Labels ps mapping ls) images-are (is .0)),

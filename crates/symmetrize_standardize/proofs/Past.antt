@@ -20,13 +20,14 @@ use Rattle.definitions.specs.Cell.{siteMapping}
 use Rattle.definitions.specs.Lent.{permutationsOf, badImages, unlike}
 use Rattle.definitions.specs.Transformation.{rotationAbsent, aligned}
 use Rattle.definitions.specs.Calls.{centringConditions, pointsConditions, alignConditions, latticeConditions, symmetrizeConditions}
-use Rattle.definitions.specs.SiteCalls.{prepareAllConditions, LabelArguments, labelConditions, badMapping}
+use Rattle.definitions.specs.SiteCalls.{prepareAllConditions, LabelArguments, badMapping, LabelCells, labelRooms, IsLabelled, HoldsLabels}
 use Rattle.definitions.specs.Standardize.{Rooms, siteCount, listedCount, listedRooms, tooShort, BadCoordinates, TextLeaves, jobConditions}
 use Rattle.definitions.specs.WholeCalls.{Given, jobFrom}
 use Rattle.laws.specs.Tests.{so, not-so, off, neither, neither-left, neither-right, true-of}
 use Rattle.laws.specs.Lists.{all-head, all-tail, all-cons, none-head, none-tail, length-each, length-upFrom}
 use Rattle.laws.specs.Order.{numbered}
 use Rattle.laws.specs.Verdicts.{Passed, found-none, accept, verdictOf}
+use Rattle.base_cell.specs.Grouping.{OrbitsLabelled, labelled-past}
 use Rattle.symmetrize_standardize_laws.specs.Found.{aligned-all, mapping-pass}
 use Rattle.symmetrize_standardize.specs.Stages.{candidatesRoom, Roomy}
 use Rattle.symmetrize_standardize.proofs.General.{told-accepted}
@@ -229,6 +230,31 @@ module _ (x : Given) (rooms : Rooms) (p : Passed (conditions x rooms) 12) where
       told-accepted cs tt v e
       (accept cs (q .0, (q .1 .0, (q .1 .1 .0, (q .1 .1 .1 .0, (p .1 .1 .1 .1 .1 .1 .1 .1 .1 .1 .1 .0, tt))))) refl)
 
+  -- the step that labels leaves an answer, with so many images
+  pub labels-left :
+      (images : List ℕ) → length images ≡ length (x .targetRotations) * length (x .positions) → (entry exit : LabelCells) →
+      length (x .positions) * copies (x .c) ≤ length (entry .labels) → length (x .positions) * copies (x .c) ≤ length (entry .multiplicities) →
+      let x′ : LabelArguments =
+      record {
+        sites = length (x .positions);
+        count = length (x .targetRotations);
+        images = images;
+        mapping = siteMapping (length (x .positions)) (copies (x .c));
+      } in
+      OrbitsLabelled x′ entry exit → (a : LabelCells) × IsLabelled x′ a × HoldsLabels entry exit a
+  unfolding Each
+  labels-left images long entry exit a b h =
+      let x′ : LabelArguments = record { sites = n; count = length (x .targetRotations); images = images; mapping = siteMapping n m } in
+      let w = known-within in
+      let like-images : unlike (length images) (length (x .targetRotations) * length (x .positions)) ≡ false = ap not (eq-eqb _ _ long) in
+      let mapped : badMapping n (siteMapping n m) ≡ false = ap not (true-of (all (λ i. ltb i n) (siteMapping n m)) (mapping-pass n m)) in
+      let few : tooManyListed (length (siteMapping n m)) ≡ false = ap tooManyListed (length-mapping n m) ∙ few-listed in
+      let t = shorterThan (length (siteMapping n m)) in
+      let short₁ : t (length (entry .labels)) ≡ false = ap (λ k. shorterThan k (length (entry .labels))) (length-mapping n m) ∙ le-ltb _ _ a in
+      let short₂ : t (length (entry .multiplicities)) ≡ false = ap (λ k. shorterThan k (length (entry .multiplicities))) (length-mapping n m) ∙ le-ltb _ _ b in
+      labelled-past x′ entry exit (neither (neither (w .sites) (w .targets)) like-images) mapped few
+      (none-pass t (labelRooms entry) (short₁, (short₂, tt))) h
+
   -- images that are the aligned permutations, one for each target
   module _ (images : List ℕ) (long : length images ≡ length (x .targetRotations) * length (x .positions)) (are : permutationsOf (length (x .positions)) (length (x .targetRotations)) images ≡ aligned (jobFrom x)) where
     permuted : badImages (length (x .positions)) (length (x .targetRotations)) images ≡ false
@@ -260,33 +286,4 @@ module _ (x : Given) (rooms : Rooms) (p : Passed (conditions x rooms) 12) where
               (not-so permuted, (not-so unimodular, (not-so (le-ltb _ _ h), tt))),
             ),
           ),
-        ) refl)
-
-    pub label-accepts :
-        (v : Verdict) (labels multiplicities : ℕ) → length (x .positions) * copies (x .c) ≤ labels →
-        length (x .positions) * copies (x .c) ≤ multiplicities →
-        Checked
-        (labelConditions
-        (record {
-          sites = length (x .positions);
-          count = length (x .targetRotations);
-          images = images;
-          mapping = siteMapping (length (x .positions)) (copies (x .c));
-        })
-        (labels ∷ multiplicities ∷ [])) v → v ≡ Accepted
-    unfolding Passed numbered any precedence verdictOf found-none Each
-    label-accepts v labels multiplicities a b e =
-        let x′ : LabelArguments = record { sites = n; count = length (x .targetRotations); images = images; mapping = siteMapping n m } in
-        let cs = labelConditions x′ (labels ∷ multiplicities ∷ []) in
-        let w = known-within in
-        let like-images : unlike (length images) (length (x .targetRotations) * length (x .positions)) ≡ false = ap not (eq-eqb _ _ long) in
-        let mapped : badMapping n (siteMapping n m) ≡ false = ap not (true-of (all (λ i. ltb i n) (siteMapping n m)) (mapping-pass n m)) in
-        let few : tooManyListed (length (siteMapping n m)) ≡ false = ap tooManyListed (length-mapping n m) ∙ few-listed in
-        let t = shorterThan (length (siteMapping n m)) in
-        let short₁ : shorterThan (length (siteMapping n m)) labels ≡ false = ap (λ k. shorterThan k labels) (length-mapping n m) ∙ le-ltb _ _ a in
-        let short₂ : shorterThan (length (siteMapping n m)) multiplicities ≡ false = ap (λ k. shorterThan k multiplicities) (length-mapping n m) ∙ le-ltb _ _ b in
-        told-accepted cs tt v e
-        (accept cs (
-          not-so (neither (neither (w .sites) (w .targets)) like-images),
-          (not-so (neither permuted mapped), (not-so few, (not-so (none-pass t (labels ∷ multiplicities ∷ []) (short₁, (short₂, tt))), tt))),
         ) refl)

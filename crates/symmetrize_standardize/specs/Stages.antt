@@ -23,12 +23,13 @@ use Rattle.definitions.specs.Matrix.{Matrix}
 use Rattle.definitions.specs.Real.{RealMatrix}
 use Rattle.definitions.specs.Orbit.{orbits}
 use Rattle.definitions.specs.Calls.{PositionsPromise, PointsPromise}
-use Rattle.definitions.specs.SiteCalls.{ListingCells, CopiesListed, LabelArguments, LabelCells, LabelPromise, LetterCells}
+use Rattle.definitions.specs.SiteCalls.{ListingCells, CopiesListed, LabelArguments, LabelCells, LetterCells}
 use Rattle.definitions.specs.SiteCalls.{SpaceCells, AssignArguments, Assigned}
 use Rattle.definitions.specs.Lent.{cellsWithin, unlike}
 use Rattle.definitions.specs.Standardize.{Rooms, Answer, IsAnswer}
 use Rattle.definitions.specs.WholeCalls.{Given, jobFrom, unlikeLists, listsConditions, AnswerCells, roomsOf}
 use Rattle.definitions.specs.WholeCalls.{HoldsAnswer, toldWhole}
+use Rattle.base_cell.specs.Grouping.{OrbitsLabelled}
 
 -- the verdict is the refusal k
 abbrev pub refusedWith : ℕ → Verdict → Bool
@@ -176,8 +177,7 @@ labelCells e = record { labels = e .labels; multiplicities = e .multiplicities }
 
 -- Labels, multiplicities and letters of the sites of a mapping.
 pub record OrbitsLettered (x : LabelArguments) (f : Fitting) (entry exit : LetterCells) (whole : Bool) : Type 0 where
-  pub labelled : Verdict
-  pub labels : LabelPromise x (labelCells entry) (labelCells exit) labelled
+  pub labels : OrbitsLabelled x (labelCells entry) (labelCells exit)
   pub letters : Assigned (assigning f (length (x .mapping)) exit) (entry .letters) (exit .letters) whole
 
 -- what is told of it, with the number of listed sites

@@ -1,5 +1,5 @@
 // The orbits of the listed sites: their labels, their letters and how many there are.
-use base_cell::label_sites;
+use base_cell::label_orbits;
 use definitions::Basis;
 use definitions::Cells;
 use definitions::Rotation;
@@ -46,8 +46,8 @@ fn count_orbits(labels: &[u16]) -> usize
     count
 }
 
-// moyo's `assign_wyckoffs_by_orbit` over labels just given. Past the refusals of the whole call the label call does not
-// refuse.
+// moyo's `assign_wyckoffs_by_orbit` over labels just given. Aligned images are permutations: the step that labels does
+// not test them.
 pub(crate) fn label_and_letter(
     sites: usize,
     count: usize,
@@ -98,7 +98,7 @@ pub(crate) fn label_and_letter(
           letters = now (letters .exit);
         }) r ⌝ }
 {
-    label_sites(sites, count, aligned, mapping, labels, multiplicities);
+    label_orbits(sites, count, aligned, mapping, labels, multiplicities);
     let n = mapping.len();
     let counted = &multiplicities[..n];
     assign_wyckoffs_by_orbit(

@@ -1,7 +1,9 @@
--- `label_sites`: the verdict is `label_verdict`'s; accepted, the lists are grouped and cleared behind the answer,
--- refused, cleared whole.
+-- `label_sites`: the verdict is `label_verdict`'s, and what is left is by it.
+use mathlib.Core.Path.{_≡_, sym, ap, subst, _∙_}
+use mathlib.Core.Logic.{⊎-elim}
 use Rattle.definitions.specs.SiteCalls.{LabelArguments, LabelCells}
-use Rattle.base_cell.proofs.Accepted.{facts, keep-accepted, keep-refused}
+use Rattle.base_cell.specs.Grouping.{LabelsLeft}
+use Rattle.base_cell.proofs.Accepted.{accepts, facts, kept}
 use borrow.Author.Needs.{needs}
 use Rattle.base_cell.proofs.label_sites.Statement.{statement}
 use Rattle.base_cell.proofs.label_sites.Tie as tie
@@ -12,37 +14,27 @@ given s = record { sites = s .args .sites; count = s .args .count; images = s .a
 abbrev lent : tie.Start → LabelCells
 lent s = record { labels = s .args .labels .now; multiplicities = s .args .multiplicities .now }
 
-group-sites-by-orbit-requires : tie.Need-group-sites-by-orbit-requires
-group-sites-by-orbit-requires c κs =
-    let s = c .before .before .before .before .before .before .before .before .before in
-    let v = c .before .before .before .before .label-verdict in
-    facts (given s) (lent s) (rw (c .before .before .enum-told .given .1) at (v .ensures))
+-- where the arms meet
+can-is : (c : tie.After-put-orbits-arg2) → c .before .before .match .can ≡ accepts (c .before .before .before .label-verdict .result)
+can-is c =
+    ⊎-elim (λ w. w .2 ∙ ap accepts (sym (w .1 .given .1))) (λ w. w .2 ∙ ap accepts (sym (w .1 .given .1))) (c .before .before .match .came)
+
+put-orbits-requires : tie.Need-put-orbits-requires
+put-orbits-requires c κs =
+    let s = c .before .before .before .before .before .before .before .before in
+    let v = c .before .before .before .label-verdict in
+    λ can. facts (given s) (lent s) (v .result) (v .ensures) (sym (can-is c) ∙ can)
 
 returns : tie.Need-returns
 returns c =
-    let p = c .before .before .before .before .before .before .before .before .before .before .before .before in
-    let u = p .before in
-    let s = u .before .before .before .before .before .before .before .before .before in
-    let v = u .before .before .before .before .label-verdict in
-    let first = c .before .before .before .before .before .before .clear-u16 in
-    let second = c .before .before .clear-u162 in
-    keep-accepted (given s) (lent s) (record { labels = first .last .0; multiplicities = second .last .0 }) (v .result) (v .ensures)
-    (p .group-sites-by-orbit .last .1 .1 .1 .1 .0) (p .group-sites-by-orbit .last .1 .1 .1 .1 .1 .0)
-    (u .before .before .enum-told .given .1) (p .group-sites-by-orbit .ensures) (first .ensures) (second .ensures)
-
-returns-2 : tie.Need-returns-2
-returns-2 c =
-    let s = c .before .before .before .before .before .before .before .before .before .before .before .before .before .before .before in
-    let v = c .before .before .before .before .before .before .before .before .before .before .label-verdict in
-    let told = c .before .before .before .before .before .before .before .before .enum-told2 .given .1 in
-    let first = c .before .before .before .before .before .before .clear-u163 in
-    let second = c .before .before .clear-u164 in
-    keep-refused (given s) (lent s) (record { labels = first .last .0; multiplicities = second .last .0 }) (v .result) (v .ensures)
-    told (first .ensures) (second .ensures)
+    let p = c .before .before .before .before .put-orbits in
+    let s = c .before .before .before .before .before .before .before .before .before .before .before .before .before in
+    let v = c .before .before .before .before .before .before .before .before .label-verdict in
+    let z : LabelCells = record { labels = p .last .1 .1 .1 .1 .1 .0; multiplicities = p .last .1 .1 .1 .1 .1 .1 .0 } in
+    kept (given s) (lent s) z (v .result) (v .ensures) (subst (LabelsLeft (given s) (lent s) z) (can-is (c .before .before .before .before .before)) (p .ensures))
 
 pub label-sites-spec : {M : Type 1} → statement M
 label-sites-spec =
     tie.close
-    (tie.spec (λ c κs. search needs) (λ c. search needs) group-sites-by-orbit-requires (λ c κs. search needs)
-    (λ c κs. search needs) (λ c. search needs) (λ c κs. search needs) (λ c κs. search needs) (λ c. search needs)
-    (λ c. search needs) returns (λ c. search needs) (λ c. search needs) returns-2)
+    (tie.spec (λ c κs. search needs) (λ c. search needs) (λ c. search needs) put-orbits-requires (λ c. search needs)
+    (λ c. search needs) returns)

@@ -1,4 +1,4 @@
--- `label_and_letter`: the label call's promise, and the step on what it left.
+-- `label_and_letter`: the step that labels, and the one that letters on what it left.
 use Prim.Native.Nat.{_≤_}
 use mathlib.Core.Path.{sym}
 use lib.ListN.{length}
@@ -11,7 +11,7 @@ slice-aggregate-counted : tie.Need-slice-aggregate-counted
 slice-aggregate-counted c =
     let l = c .before .before .before .before .before in
     let s = l .before .before .before .before .before .before .before .before .before .before in
-    let multiplicities = l .label-sites .last .1 .1 .1 .1 .1 .0 in
+    let multiplicities = l .label-orbits .last .1 .1 .1 .1 .1 .0 in
     let h : length (s .args .mapping .now) ≤ length multiplicities = search needs in
     sym (length-take-le _ multiplicities h)
 
@@ -19,7 +19,7 @@ slice-aggregate-assign-wyckoffs-by-orbit : tie.Need-slice-aggregate-assign-wycko
 slice-aggregate-assign-wyckoffs-by-orbit c =
     let l = c .before .before .before .before .before .before in
     let s = l .before .before .before .before .before .before .before .before .before .before in
-    let labels = l .label-sites .last .1 .1 .1 .1 .0 in
+    let labels = l .label-orbits .last .1 .1 .1 .1 .0 in
     let h : length (s .args .mapping .now) ≤ length labels = search needs in
     sym (length-take-le _ labels h)
 
