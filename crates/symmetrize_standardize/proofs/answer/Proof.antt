@@ -2,8 +2,9 @@
 use Prim.Native.Nat.{ℕ, _*_, _≤_}
 use mathlib.Core.Path.{_≡_, refl, sym, ap, subst, _∙_}
 use mathlib.Core.List.{List, [], _∷_, _++_}
-use lib.ListN.{length, take, drop, replicate, length-replicate}
-use lib.Seq.{length-take-le}
+use native.Mathlib.Omega.{arith}
+use lib.ListN.{length, take, drop, replicate}
+use lib.Seq.{length-take-le, take-all}
 use mir.Syntax.{w8}
 use Rattle.definitions.specs.Lent.{zeroCells, zeroMatrix}
 use Rattle.definitions.specs.SiteCalls.{SpaceCells, spaceRooms}
@@ -12,8 +13,8 @@ use Rattle.laws.specs.Verdicts.{Passed}
 use Rattle.math_matrix.proofs.Shape.{good-three}
 use Rattle.symmetrize_standardize.specs.Stages.{Told, leastRoom, wholeVerdict}
 use Rattle.symmetrize_standardize.proofs.General.{Until}
-use Rattle.symmetrize_standardize.proofs.Ladder.{conditions, tableRooms, few-images, few-candidates, Right, whole-until}
-use Rattle.symmetrize_standardize.proofs.Parts.{front-back, front-room, still-room}
+use Rattle.symmetrize_standardize.proofs.Ladder.{conditions, tableRooms, alignedRoom, few-candidates, Right, whole-until}
+use Rattle.symmetrize_standardize.proofs.Parts.{front-back, front-room}
 use Rattle.symmetrize_standardize.proofs.Choices.{fronts}
 use Rattle.symmetrize_standardize.proofs.Past.{known-copies, known-sites, known-entries, known-candidates, known-roomy}
 use Rattle.symmetrize_standardize.proofs.Assembled.{right-of, refused-uncleared, answered}
@@ -67,7 +68,7 @@ abbrev prepared : tie.After-whole-verdict → tie.After-prepare-all
 prepared w = w .before .before .before .before .before .before .before .before .before .before .before .before .before .before .before .before .before
 
 abbrev aligned : tie.After-whole-verdict → tie.After-align-permutations
-aligned w = w .before .before .before .before .before .before .before .before .before
+aligned w = w .before .before .before .before .before .before .before .before .before .before
 
 abbrev deformed : tie.After-whole-verdict → tie.After-symmetrize-lattice
 deformed w = w .before .before .before .before
@@ -78,26 +79,14 @@ diagonalised w = w .before .before
 abbrev candidates : tie.After-whole-verdict → tie.After-candidates-room
 candidates w = w .before .before .before .before .before .before .before .before .before .before .before .before .before .before .before .before .before .before .before .before .before .before .before
 
-abbrev entries : tie.After-whole-verdict → tie.After-images-room
-entries w = w .before .before .before .before .before .before .before .before .before .before .before
-
 abbrev start : tie.After-whole-verdict → tie.Start
-start w = w .before .before .before .before .before .before .before .before .before .before .before .before .before .before .before .before .before .before .before .before .before .before .before .before .before .before .before .before .before .before .before
+start w = w .before .before .before .before .before .before .before .before .before .before .before .before .before .before .before .before .before .before .before .before .before .before .before .before .before .before .before .before .before .before .before .before
 
--- the fronts of the tables and of the images that are lent
-abbrev zeros : List ℕ
-zeros = replicate 24576 0
-
+-- the fronts of the tables that are lent
 few : (c : tie.After-candidates-room) → c .candidates-room .result ≤ 64
 few c =
-    let a = c .before .before .before .before .before .before .before .before .args in
+    let a = c .before .before .before .before .before .before .before .before .before .args in
     subst (λ n. n ≤ 64) (sym (c .candidates-room .ensures)) (few-candidates (length (a .texts .now)))
-
-few-entries : (c : tie.After-images-room) → c .images-room .result ≤ length zeros
-few-entries c =
-    let a = c .before .before .before .before .before .before .before .before .before .before .before .before .before .before .before .before .before .before .before .before .args in
-    still-room (subst (λ n. n ≤ 24576) (sym (c .images-room .ensures)) (few-images (length (a .positions .now)) (length (a .target-rotations .now))))
-    (length-replicate {A = ℕ} 24576 0)
 
 -- the tables and the images as they are lent, and as they come back
 abbrev no-spaces : tie.After-whole-verdict → SpaceCells
@@ -122,7 +111,7 @@ spaces w =
     }
 
 abbrev no-images : tie.After-whole-verdict → List ℕ
-no-images w = take (entries w .images-room .result) zeros
+no-images w = start w .args .aligned .now
 
 abbrev images : tie.After-whole-verdict → List ℕ
 images w = aligned w .align-permutations .last .1 .1 .1 .1 .1 .0
@@ -134,8 +123,11 @@ matrices-long w = length-take-le _ (replicate 64 zeroMatrix) (few (candidates w)
 shifts-long : (w : tie.After-whole-verdict) → length (take (candidates w .candidates-room .result) (replicate 64 zeroCells)) ≡ candidates w .candidates-room .result
 shifts-long w = length-take-le _ (replicate 64 zeroCells) (few (candidates w))
 
-images-long : (w : tie.After-whole-verdict) → length (no-images w) ≡ entries w .images-room .result
-images-long w = length-take-le _ zeros (few-entries (entries w))
+images-long : (w : tie.After-whole-verdict) → length (no-images w) ≡ alignedRoom (given (start w))
+images-long w = start w .pre
+
+images-kept : (w : tie.After-whole-verdict) → length (images w) ≡ length (no-images w)
+images-kept w = aligned w .align-permutations .kept .1 .1 .1 .1 .1 .0
 
 table-rooms : (w : tie.After-whole-verdict) → spaceRooms (no-spaces w) ≡ tableRooms (given (start w))
 table-rooms w =
@@ -156,7 +148,7 @@ told w =
 right : (w : tie.After-whole-verdict) → Right (given (start w)) (told w)
 right w =
     right-of (given (start w)) (no-spaces w) (spaces w) (prepared w .prepare-all .result) (table-rooms w) (prepared w .prepare-all .ensures)
-    (no-images w) (images w) (aligned w .align-permutations .result) (images-long w ∙ entries w .images-room .ensures) (aligned w .align-permutations .ensures)
+    (no-images w) (images w) (aligned w .align-permutations .result) (images-long w) (aligned w .align-permutations .ensures)
     (deformed w .symmetrize-lattice .last .1 .1 .1 .1 .0) (deformed w .symmetrize-lattice .last .1 .1 .1 .1 .1 .0) (deformed w .symmetrize-lattice .last .1 .1 .1 .1 .1 .1 .0)
     (deformed w .symmetrize-lattice .result) (deformed w .symmetrize-lattice .ensures)
     (diagonalised w .invariant-factors .last .1 .0) (diagonalised w .invariant-factors .result) (diagonalised w .invariant-factors .ensures)
@@ -172,6 +164,9 @@ until w =
     let is : w .whole-verdict .result ≡ wholeVerdict x (leastRoom rooms) (rooms .primitive) (told w) =
     w .whole-verdict .ensures ∙ ap (λ r. wholeVerdict x r (rooms .primitive) (told w)) (w .before .least-room .ensures) in
     subst (Until (conditions x rooms) 12) (sym is) (whole-until x rooms (told w) (right w))
+
+same-length : tie.Need-same-length
+same-length c = images-kept (c .before .before .before)
 
 returns : tie.Need-returns
 returns c =
@@ -190,10 +185,6 @@ passed c =
     let s = start (verdict c) in
     subst (Until (conditions (given s) (roomsOf (lent s))) 12) (c .enum-told .given .1) (until (verdict c))
 
-in-aligned : (c : tie.After-enum-told) → let k = entries (verdict c) .images-room .result in k ≤ length (images (verdict c) ++ drop k zeros)
-in-aligned c =
-    front-room _ zeros (images (verdict c)) (few-entries (entries (verdict c))) (aligned (verdict c) .align-permutations .kept .1 .1 .1 .1 .1 .0)
-
 in-matrices : (c : tie.After-enum-told) → let k = candidates (verdict c) .candidates-room .result in k ≤ length (spaces (verdict c) .matrices ++ drop k (replicate 64 zeroMatrix))
 in-matrices c = front-room _ (replicate 64 zeroMatrix) (spaces (verdict c) .matrices) (few (candidates (verdict c))) (prepared (verdict c) .prepare-all .kept .1 .0)
 
@@ -209,16 +200,16 @@ in-ls c = front-room _ (replicate 64 zeroMatrix) (spaces (verdict c) .ls) (few (
 in-rs : (c : tie.After-enum-told) → let k = candidates (verdict c) .candidates-room .result in k ≤ length (spaces (verdict c) .rs ++ drop k (replicate 64 zeroMatrix))
 in-rs c = front-room _ (replicate 64 zeroMatrix) (spaces (verdict c) .rs) (few (candidates (verdict c))) (prepared (verdict c) .prepare-all .kept .1 .1 .1 .1 .1 .0)
 
--- the lent fronts as `finish` reads them
+-- the images and the lent fronts as `finish` reads them
 images-front :
-    (c : tie.After-enum-told) → let w = verdict c in let k = entries w .images-room .result in
-    take k (images w ++ drop k zeros) ≡ take (length (given (start w) .targetRotations) * length (given (start w) .positions)) (images w)
+    (c : tie.After-enum-told) → let w = verdict c in
+    images w ≡ take (length (given (start w) .targetRotations) * length (given (start w) .positions)) (images w)
 images-front c =
     let w = verdict c in
     let s = start w in
-    front-back _ _ (images w) (drop (entries w .images-room .result) zeros)
-    (entries w .images-room .ensures ∙ known-entries (given s) (roomsOf (lent s)) (passed c))
-    (aligned w .align-permutations .kept .1 .1 .1 .1 .1 .0 ∙ images-long w)
+    let long : length (images w) ≤ length (given s .targetRotations) * length (given s .positions) =
+    omega (arith, images-kept w ∙ images-long w ∙ known-entries (given s) (roomsOf (lent s)) (passed c)) in
+    sym (take-all _ (images w) long)
 
 abbrev behind : tie.After-whole-verdict → SpaceCells
 behind w =
@@ -279,47 +270,35 @@ array-borrow-prefix-rs c = few (c .before .before .before .before)
 slice-aggregate-prepare-all-5 : tie.Need-slice-aggregate-prepare-all-5
 slice-aggregate-prepare-all-5 c = sym (length-take-le _ (replicate 64 zeroMatrix) (few (c .before .before .before .before .before)))
 
-array-borrow-prefix-aligned : tie.Need-array-borrow-prefix-aligned
-array-borrow-prefix-aligned c = few-entries c
-
-slice-aggregate-align-permutations : tie.Need-slice-aggregate-align-permutations
-slice-aggregate-align-permutations c = sym (length-take-le _ zeros (few-entries (c .before)))
-
-array-share-prefix-aligned : tie.Need-array-share-prefix-aligned
-array-share-prefix-aligned c = in-aligned (c .before)
-
-slice-aggregate-finish : tie.Need-slice-aggregate-finish
-slice-aggregate-finish c = sym (length-take-le _ _ (in-aligned (c .before .before)))
-
 array-share-prefix-matrices : tie.Need-array-share-prefix-matrices
 array-share-prefix-matrices c = in-matrices (c .before .before)
 
-slice-aggregate-finish-2 : tie.Need-slice-aggregate-finish-2
-slice-aggregate-finish-2 c = sym (length-take-le _ _ (in-matrices (c .before .before .before)))
+slice-aggregate-finish : tie.Need-slice-aggregate-finish
+slice-aggregate-finish c = sym (length-take-le _ _ (in-matrices (c .before .before .before)))
 
 array-share-prefix-shifts : tie.Need-array-share-prefix-shifts
 array-share-prefix-shifts c = in-shifts (c .before .before .before)
 
-slice-aggregate-finish-3 : tie.Need-slice-aggregate-finish-3
-slice-aggregate-finish-3 c = sym (length-take-le _ _ (in-shifts (c .before .before .before .before)))
+slice-aggregate-finish-2 : tie.Need-slice-aggregate-finish-2
+slice-aggregate-finish-2 c = sym (length-take-le _ _ (in-shifts (c .before .before .before .before)))
 
 array-share-prefix-ds : tie.Need-array-share-prefix-ds
 array-share-prefix-ds c = in-ds (c .before .before .before .before)
 
-slice-aggregate-finish-4 : tie.Need-slice-aggregate-finish-4
-slice-aggregate-finish-4 c = sym (length-take-le _ _ (in-ds (c .before .before .before .before .before)))
+slice-aggregate-finish-3 : tie.Need-slice-aggregate-finish-3
+slice-aggregate-finish-3 c = sym (length-take-le _ _ (in-ds (c .before .before .before .before .before)))
 
 array-share-prefix-ls : tie.Need-array-share-prefix-ls
 array-share-prefix-ls c = in-ls (c .before .before .before .before .before)
 
-slice-aggregate-finish-5 : tie.Need-slice-aggregate-finish-5
-slice-aggregate-finish-5 c = sym (length-take-le _ _ (in-ls (c .before .before .before .before .before .before)))
+slice-aggregate-finish-4 : tie.Need-slice-aggregate-finish-4
+slice-aggregate-finish-4 c = sym (length-take-le _ _ (in-ls (c .before .before .before .before .before .before)))
 
 array-share-prefix-rs : tie.Need-array-share-prefix-rs
 array-share-prefix-rs c = in-rs (c .before .before .before .before .before .before)
 
-slice-aggregate-finish-6 : tie.Need-slice-aggregate-finish-6
-slice-aggregate-finish-6 c = sym (length-take-le _ _ (in-rs (c .before .before .before .before .before .before .before)))
+slice-aggregate-finish-5 : tie.Need-slice-aggregate-finish-5
+slice-aggregate-finish-5 c = sym (length-take-le _ _ (in-rs (c .before .before .before .before .before .before .before)))
 
 finish-requires : tie.Need-finish-requires
 finish-requires c κs =
@@ -334,29 +313,32 @@ finish-requires c κs =
 abbrev finished : tie.After-primitive → tie.After-finish
 finished c = c .before .before .before .before .before .before .before .before .before .before .before .before
 
-same-length : tie.Need-same-length
-same-length c = finished c .finish .kept .1 .1 .1 .1 .1 .1 .1 .1 .1 .1 .1 .1 .1 .1 .1 .1 .1 .0
-
 same-length-2 : tie.Need-same-length-2
-same-length-2 c = finished c .finish .kept .1 .1 .1 .1 .1 .1 .1 .1 .1 .1 .1 .1 .1 .1 .1 .1 .1 .1 .0
+same-length-2 c = images-kept (verdict (finished c .before .before .before .before .before .before .before .before .before .before .before .before .before .before .before .before))
 
 same-length-3 : tie.Need-same-length-3
-same-length-3 c = finished c .finish .kept .1 .1 .1 .1 .1 .1 .1 .1 .1 .1 .1 .1 .1 .1 .1 .1 .1 .1 .1 .0
+same-length-3 c = finished c .finish .kept .1 .1 .1 .1 .1 .1 .1 .1 .1 .1 .1 .1 .1 .1 .1 .1 .1 .0
 
 same-length-4 : tie.Need-same-length-4
-same-length-4 c = finished c .finish .kept .1 .1 .1 .1 .1 .1 .1 .1 .1 .1 .1 .1 .1 .1 .1 .1 .1 .1 .1 .1 .0
+same-length-4 c = finished c .finish .kept .1 .1 .1 .1 .1 .1 .1 .1 .1 .1 .1 .1 .1 .1 .1 .1 .1 .1 .0
 
 same-length-5 : tie.Need-same-length-5
-same-length-5 c = finished c .finish .kept .1 .1 .1 .1 .1 .1 .1 .1 .1 .1 .1 .1 .1 .1 .1 .1 .1 .1 .1 .1 .1 .0
+same-length-5 c = finished c .finish .kept .1 .1 .1 .1 .1 .1 .1 .1 .1 .1 .1 .1 .1 .1 .1 .1 .1 .1 .1 .0
 
 same-length-6 : tie.Need-same-length-6
-same-length-6 c = finished c .finish .kept .1 .1 .1 .1 .1 .1 .1 .1 .1 .1 .1 .1 .1 .1 .1 .1 .1 .1 .1 .1 .1 .1 .0
+same-length-6 c = finished c .finish .kept .1 .1 .1 .1 .1 .1 .1 .1 .1 .1 .1 .1 .1 .1 .1 .1 .1 .1 .1 .1 .0
 
 same-length-7 : tie.Need-same-length-7
-same-length-7 c = finished c .finish .kept .1 .1 .1 .1 .1 .1 .1 .1 .1 .1 .1 .1 .1 .1 .1 .1 .1 .1 .1 .1 .1 .1 .1 .0
+same-length-7 c = finished c .finish .kept .1 .1 .1 .1 .1 .1 .1 .1 .1 .1 .1 .1 .1 .1 .1 .1 .1 .1 .1 .1 .1 .0
 
 same-length-8 : tie.Need-same-length-8
-same-length-8 c = finished c .finish .kept .1 .1 .1 .1 .1 .1 .1 .1 .1 .1 .1 .1 .1 .1 .1 .1 .1 .1 .1 .1 .1 .1 .1 .1 .0
+same-length-8 c = finished c .finish .kept .1 .1 .1 .1 .1 .1 .1 .1 .1 .1 .1 .1 .1 .1 .1 .1 .1 .1 .1 .1 .1 .1 .0
+
+same-length-9 : tie.Need-same-length-9
+same-length-9 c = finished c .finish .kept .1 .1 .1 .1 .1 .1 .1 .1 .1 .1 .1 .1 .1 .1 .1 .1 .1 .1 .1 .1 .1 .1 .1 .0
+
+same-length-10 : tie.Need-same-length-10
+same-length-10 c = finished c .finish .kept .1 .1 .1 .1 .1 .1 .1 .1 .1 .1 .1 .1 .1 .1 .1 .1 .1 .1 .1 .1 .1 .1 .1 .1 .0
 
 returns-2 : tie.Need-returns-2
 returns-2 c =
@@ -380,7 +362,7 @@ returns-2 c =
     } in
     answered (given s) (lent s) z (good-three w8 (s .args .c) (s .good .1 .1 .1 .0)) (passed e)
     (no-spaces w) (spaces w) (prepared w .prepare-all .result) (table-rooms w) (prepared w .prepare-all .ensures)
-    (no-images w) (images w) (aligned w .align-permutations .result) (images-long w ∙ entries w .images-room .ensures) (aligned w .align-permutations .ensures)
+    (no-images w) (images w) (aligned w .align-permutations .result) (images-long w) (aligned w .align-permutations .ensures)
     (deformed w .symmetrize-lattice .last .1 .1 .1 .1 .0) (deformed w .symmetrize-lattice .result) (deformed w .symmetrize-lattice .ensures)
     (diagonalised w .invariant-factors .result) (diagonalised w .invariant-factors .ensures)
     _ (images-front e) (behind w) (spaces-fronts e) (f .finish .ensures .0) (f .finish .result) (f .finish .ensures .1)
@@ -388,11 +370,13 @@ returns-2 c =
 pub answer-spec : {M : Type 1} → statement M
 answer-spec =
     tie.close
-    (tie.spec (λ c κs. tt) array-borrow-prefix-matrices slice-aggregate-prepare-all array-borrow-prefix-shifts slice-aggregate-prepare-all-2
-    array-borrow-prefix-ds slice-aggregate-prepare-all-3 array-borrow-prefix-ls slice-aggregate-prepare-all-4 array-borrow-prefix-rs
-    slice-aggregate-prepare-all-5 (λ c κs. tt) (λ c κs. tt) array-borrow-prefix-aligned slice-aggregate-align-permutations (λ c κs. tt)
-    (λ c κs. tt) (λ c κs. tt) (λ c κs. tt) (λ c κs. tt) (λ c. c .match .keys1) (λ c. c .match .keys2)
-    array-share-prefix-aligned slice-aggregate-finish array-share-prefix-matrices slice-aggregate-finish-2
-    array-share-prefix-shifts slice-aggregate-finish-3 array-share-prefix-ds slice-aggregate-finish-4 array-share-prefix-ls
-    slice-aggregate-finish-5 array-share-prefix-rs slice-aggregate-finish-6 finish-requires returns same-length same-length-2
-    same-length-3 same-length-4 same-length-5 same-length-6 same-length-7 same-length-8 returns-2)
+    (tie.spec (λ c κs. tt) array-borrow-prefix-matrices slice-aggregate-prepare-all array-borrow-prefix-shifts
+    slice-aggregate-prepare-all-2 array-borrow-prefix-ds slice-aggregate-prepare-all-3 array-borrow-prefix-ls
+    slice-aggregate-prepare-all-4 array-borrow-prefix-rs slice-aggregate-prepare-all-5
+    (λ c κs. tt) (λ c κs. tt) (λ c κs. tt) (λ c κs. tt) (λ c κs. tt) (λ c κs. tt)
+    (λ c. c .match .keys1) (λ c. c .match .keys2)
+    array-share-prefix-matrices slice-aggregate-finish array-share-prefix-shifts slice-aggregate-finish-2
+    array-share-prefix-ds slice-aggregate-finish-3 array-share-prefix-ls slice-aggregate-finish-4
+    array-share-prefix-rs slice-aggregate-finish-5 finish-requires same-length returns
+    same-length-2 same-length-3 same-length-4 same-length-5 same-length-6 same-length-7 same-length-8 same-length-9
+    same-length-10 returns-2)
