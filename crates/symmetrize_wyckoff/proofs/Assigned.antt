@@ -1,11 +1,11 @@
 -- How the step keeps its promise: by the guard, by a table of the letters and by what was written from it.
 use Prim.Native.Nat.{ℕ, suc, _≤_, _<_}
 use mathlib.Core.Path.{_≡_, refl, sym, ap, ap₂, _∙_, subst}
-use mathlib.Core.Bool.{Bool, true, false, not, _&&_}
+use mathlib.Core.Bool.{Bool, true, false, not, _&&_, _||_}
 use mathlib.Core.List.{List, [], _∷_, _++_, map}
 use mathlib.Core.Option.{Option, none, some}
 use native.Mathlib.Omega.{arith}
-use borrow.Author.Tests.{eq-eqb, ne-eqb}
+use borrow.Author.Tests.{eq-eqb, ne-eqb, eqb-true}
 use lib.Dec.{eqb}
 use lib.Ieee.{Float}
 use lib.ListN.{length, getD, drop, length-map}
@@ -41,6 +41,10 @@ map-on : (f g : ℕ → ℕ) (l : List ℕ) → ((i : ℕ) → i < length l → 
 map-on f g [] h = refl
 map-on f g (a ∷ l) h = ap₂ (λ b r. b ∷ r) (h 0 (omega arith)) (map-on f g l (λ i k. h (suc i) (omega arith)))
 
+nothing-in : (l : List ℕ) → length l ≡ 0 → l ≡ []
+nothing-in [] e = refl
+nothing-in (a ∷ l) e = absurd (omega arith)
+
 -- ---- what a cell says
 
 has-letter : (o : Option ℕ) (c : ℕ) → Notes o c → not (eqb c no-letter) ≡ not (isNone o)
@@ -54,8 +58,26 @@ its-letter (some b) c h e = h .0
 -- ---- the promise
 
 module _ (x : AssignArguments) (entry exit : List ℕ) where
-  pub none-given : assignable x (length entry) ≡ false → exit ≡ cut 0 0 entry → Assigned x entry exit false
-  none-given e h = record { judged = sym (ap (λ b. b && allLettered (sitesIn x)) e); letters = h }
+  module _ (empty : length (x .labels) ≡ 0) where
+    none-lettered : allLettered (sitesIn x) ≡ true
+    unfolding all
+    none-lettered = ap (all (λ l. not (isNone (letterOf (sitesIn x) l)))) (nothing-in (x .labels) empty)
+
+    no-letters : letters (sitesIn x) ≡ []
+    unfolding letters
+    no-letters = ap (map (λ l. letterOr (letterOf (sitesIn x) l))) (nothing-in (x .labels) empty)
+
+  -- no lists to letter, or no sites
+  pub none-given :
+      (w : Bool) → w ≡ assignable x (length entry) → (not w || eqb (length (x .labels)) 0) ≡ true →
+      exit ≡ cut 0 0 entry → Assigned x entry exit w
+  none-given false e t h = record { judged = ap (λ b. b && allLettered (sitesIn x)) e; letters = h }
+  none-given true e t h =
+      let empty = eqb-true (length (x .labels)) 0 t in
+      record {
+        judged = sym (none-lettered empty) ∙ ap (λ b. b && allLettered (sitesIn x)) e;
+        letters = h ∙ ap (λ l. padded 0 l (length entry)) (sym (no-letters empty));
+      }
 
   module _ (ready : Assignable x) (given : assignable x (length entry) ≡ true) (table : List ℕ)
       (noted : NotesAll (letterOf (sitesIn x)) table) where

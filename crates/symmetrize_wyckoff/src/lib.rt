@@ -152,9 +152,11 @@ pub fn assign_wyckoffs_by_orbit(
         rs.len(),
         letters.len(),
     );
-    if !given {
+    // The tables of a walk over no sites would be made for nothing.
+    let empty = labels.len() == 0;
+    if !given | empty {
         clear_u8(letters, 0);
-        return false;
+        return given;
     }
     let table = letter_table(
         labels,

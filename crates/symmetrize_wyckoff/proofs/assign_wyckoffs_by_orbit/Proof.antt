@@ -1,10 +1,11 @@
 -- `assign_wyckoffs_by_orbit`: nothing to letter, an orbit without a letter, or all with one.
 use mathlib.Core.Path.{_≡_, sym, _∙_}
-use mathlib.Core.Bool.{true}
+use mathlib.Core.Bool.{true, not}
 use lib.ListN.{length}
-use borrow.Author.Tests.{not-true, not-false}
+use borrow.Author.Tests.{not-false}
 use Rattle.definitions.specs.Wyckoff.{letterOf}
 use Rattle.definitions.specs.SiteCalls.{AssignArguments, sitesIn, assignable}
+use Rattle.laws.specs.Tests.{neither-left}
 use Rattle.symmetrize_wyckoff.proofs.Tables.{are-noted}
 use Rattle.symmetrize_wyckoff.proofs.Given.{facts, fits-room}
 use Rattle.symmetrize_wyckoff.proofs.Assigned.{labels-below, none-given, one-without, all-with}
@@ -36,15 +37,16 @@ given s =
 ready :
     (c : tie.Else1) → assignable (given (c .before .before .before .before .before .before .before))
     (length (c .before .before .before .before .before .before .before .args .letters .now)) ≡ true
-ready c = sym (c .before .assignable .ensures) ∙ not-false (c .before .assignable .result) (c .if1 .left)
+ready c =
+    let a = c .before .assignable in
+    sym (a .ensures) ∙ not-false (a .result) (neither-left (not (a .result)) _ (c .if1 .left))
 
 returns : tie.Need-returns
 returns c =
     let s = c .before .before .before .before .before .before .before .before .before .before .before in
     let a = c .before .before .before .before .before .assignable in
     none-given (given s) (s .args .letters .now) (c .before .before .clear-u8 .last .0)
-    (sym (a .ensures) ∙ not-true (a .result) (c .before .before .before .before .if1 .taken))
-    (c .before .before .clear-u8 .ensures)
+    (a .result) (a .ensures) (c .before .before .before .before .if1 .taken) (c .before .before .clear-u8 .ensures)
 
 letter-table-requires : tie.Need-letter-table-requires
 letter-table-requires c κs =
