@@ -1,3 +1,5 @@
 pub mod Value
 pub mod Pattern
 pub mod Nearest
+pub mod Sums
+pub mod Fraction

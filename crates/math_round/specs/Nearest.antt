@@ -17,10 +17,10 @@ use Rattle.definitions.specs.Real.{unitsOf, isFinite, negative, IsRound, roundA
 use Rattle.math_round.specs.Value.{nearestPart, nearestPart-le, whole-value}
 
 -- what `fits` says of m * 2 ^ e
-record Fit (m : ℕ) (e : ℤ) : Type 0 where
-  digits : m < 2 ^ 53
-  fine : down e ≤ 2 ^ 1074
-  in-range : m * up e < 2 ^ 1024 * down e
+pub record Fit (m : ℕ) (e : ℤ) : Type 0 where
+  pub digits : m < 2 ^ 53
+  pub fine : down e ≤ 2 ^ 1074
+  pub in-range : m * up e < 2 ^ 1024 * down e
 
 zero-fine : (e : ℤ) → up e * down e ≡ 1 → down e ≤ 1
 zero-fine (pos k) h = lit≤ tt
@@ -29,7 +29,7 @@ zero-fine (negsuc k) h = at (2 ^ suc k) h
     at : (d : ℕ) → 1 * d ≡ 1 → d ≤ 1
     at d h = omega arith
 
-fit-of : (s : Bool) (m : ℕ) (e : ℤ) → T (fits binary64 (fin s m e)) → Fit m e
+pub fit-of : (s : Bool) (m : ℕ) (e : ℤ) → T (fits binary64 (fin s m e)) → Fit m e
 unfolding fits
 fit-of s zero e t =
     record {
@@ -54,12 +54,12 @@ fit-of s (suc m) e t =
 
 -- ---- units of 2 ^ -1074
 -- a denominator that fits divides 2 ^ 1074
-record Divides (d : ℕ) : Type 0 where
-  q : ℕ
-  is : 2 ^ 1074 ≡ d * q
-  some : 0 < q
+pub record Divides (d : ℕ) : Type 0 where
+  pub q : ℕ
+  pub is : 2 ^ 1074 ≡ d * q
+  pub some : 0 < q
 
-divides : (e : ℤ) → down e ≤ 2 ^ 1074 → Divides (down e)
+unfoldable pub divides : (e : ℤ) → down e ≤ 2 ^ 1074 → Divides (down e)
 divides (pos k) h = record { q = 2 ^ 1074; is = refl; some = pow-pos 1074 }
 divides (negsuc k) h = record { q = 2 ^ (1074 - suc k); is = at 1074 h; some = pow-pos (1074 - suc k) }
   where

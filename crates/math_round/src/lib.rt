@@ -1,4 +1,6 @@
 // Rounding to a whole number, half away from zero, over every f64.
+pub mod fraction;
+
 ghost use mathlib.Core.Path.{_≡_};
 ghost use Prim.Native.Nat.{_+_, _*_, _-_, _/_, _^_, _≤_, _<_};
 ghost use lib.Dec.{eqb};

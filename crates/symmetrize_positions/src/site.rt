@@ -3,6 +3,8 @@ use definitions::Basis;
 use definitions::Cells;
 use definitions::Position;
 use math_real::position;
+use math_round::fraction::off_whole;
+use math_round::fraction::settles;
 use math_round::round;
 ghost use mathlib.Core.Path.{_≡_};
 ghost use mathlib.Core.List.{[]};
@@ -20,10 +22,20 @@ fn off_round(d: f64) -> f64
     d - round(d)
 }
 
-// without whole vectors
+// without whole vectors: mostly sums settle all three coordinates
 fn fraction(d: Position) -> Position
     ensures { λ r. ⌜ r ≡ mapP offRound d ⌝ }
 {
+    let x = settles(d.x);
+    let y = settles(d.y);
+    let z = settles(d.z);
+    if x & y & z {
+        return Position {
+            x: off_whole(d.x),
+            y: off_whole(d.y),
+            z: off_whole(d.z),
+        };
+    }
     Position {
         x: off_round(d.x),
         y: off_round(d.y),
