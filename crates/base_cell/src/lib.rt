@@ -1,17 +1,17 @@
 // The orbits of the listed sites (moyo's base/cell.rs, and `orbits_in_cell` and `group_sites_by_orbit` of its
 // symmetrize/wyckoff.rs): the label call and its step; what joined, a label and a multiplicity are, and demand 3, in
 // specs/.
-mod checks;
 mod labels;
 mod union_find;
+mod verdicts;
 
 ghost use mathlib.Core.Path.{_≡_};
 ghost use mathlib.Core.Bool.{true};
 ghost use Rattle.definitions.specs.SiteCalls.{LabelPromise};
 ghost use Rattle.base_cell.specs.Grouping.{Groupable, LabelsLeft, OrbitsLabelled};
-use crate::checks::can_group;
-use crate::checks::label_verdict;
 use crate::labels::group_sites_by_orbit;
+use crate::verdicts::can_group;
+use crate::verdicts::label_verdict;
 use definitions::Verdict;
 use lent::clear_u16;
 

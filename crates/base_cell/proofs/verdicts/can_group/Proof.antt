@@ -10,8 +10,8 @@ use Rattle.definitions.specs.Limits.{tooManyListed, shorterThan}
 use Rattle.definitions.specs.Lists.{any}
 use Rattle.definitions.specs.SiteCalls.{badMapping}
 use Rattle.laws.specs.Lists.{any-head, any-tail, any-none}
-use Rattle.base_cell.proofs.checks.can_group.Statement.{statement}
-use Rattle.base_cell.proofs.checks.can_group.Tie as tie
+use Rattle.base_cell.proofs.verdicts.can_group.Statement.{statement}
+use Rattle.base_cell.proofs.verdicts.can_group.Tie as tie
 
 -- ---- the four tests of `groupable`
 

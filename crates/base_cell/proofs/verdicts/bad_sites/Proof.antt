@@ -3,8 +3,8 @@ use mathlib.Core.Path.{sym, ap, _∙_}
 use mathlib.Core.Bool.{not}
 use Rattle.laws.specs.Tests.{or-left, as-second}
 use borrow.Author.Needs.{needs}
-use Rattle.base_cell.proofs.checks.bad_sites.Statement.{statement}
-use Rattle.base_cell.proofs.checks.bad_sites.Tie as tie
+use Rattle.base_cell.proofs.verdicts.bad_sites.Statement.{statement}
+use Rattle.base_cell.proofs.verdicts.bad_sites.Tie as tie
 
 returns : tie.Need-returns
 returns c = sym (or-left _ (ap not (sym (c .before .all-permutations .ensures)) ∙ c .if1 .taken))

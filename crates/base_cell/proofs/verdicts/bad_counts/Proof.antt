@@ -3,8 +3,8 @@ use Prim.Native.Nat.{_*_, _≤_}
 use native.Mathlib.Nat.{mul-le-mul}
 use native.Mathlib.Omega.{arith}
 use borrow.Author.Tests.{lt-ltb, le-ltb, eq-eqb, ne-eqb}
-use Rattle.base_cell.proofs.checks.bad_counts.Statement.{statement}
-use Rattle.base_cell.proofs.checks.bad_counts.Tie as tie
+use Rattle.base_cell.proofs.verdicts.bad_counts.Statement.{statement}
+use Rattle.base_cell.proofs.verdicts.bad_counts.Tie as tie
 
 returns : tie.Need-returns
 returns c = simp (lt-ltb _ _ (c .if1 .taken))

@@ -12,8 +12,8 @@ use Rattle.definitions.specs.SiteCalls.{LabelArguments, labelConditions}
 use Rattle.laws.specs.Lists.{any-head, any-tail, any-none}
 use Rattle.laws.specs.Tests.{so, not-so}
 use Rattle.laws.specs.Verdicts.{HoldsAt, Passed, pass, found-at, found-none, refuse, accept, verdictOf}
-use Rattle.base_cell.proofs.checks.label_verdict.Statement.{statement}
-use Rattle.base_cell.proofs.checks.label_verdict.Tie as tie
+use Rattle.base_cell.proofs.verdicts.label_verdict.Statement.{statement}
+use Rattle.base_cell.proofs.verdicts.label_verdict.Tie as tie
 
 abbrev conditions : tie.Start → List Condition
 conditions s =

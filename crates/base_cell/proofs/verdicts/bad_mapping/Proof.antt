@@ -9,8 +9,8 @@ use borrow.Author.Needs.{needs}
 use borrow.Author.Tests.{lt-ltb, le-ltb}
 use Rattle.definitions.specs.Lists.{all}
 use Rattle.laws.specs.Lists.{all-pass, all-fail, all-end}
-use Rattle.base_cell.proofs.checks.bad_mapping.Statement.{statement}
-use Rattle.base_cell.proofs.checks.bad_mapping.Tie as tie
+use Rattle.base_cell.proofs.verdicts.bad_mapping.Statement.{statement}
+use Rattle.base_cell.proofs.verdicts.bad_mapping.Tie as tie
 
 abbrev Inv-loop : tie.InvT-loop
 Inv-loop sites mapping j₀ j = (j ≤ length mapping) × (all (λ i. ltb i sites) mapping ≡ all (λ i. ltb i sites) (drop j mapping))
