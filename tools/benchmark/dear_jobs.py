@@ -1,8 +1,9 @@
 #!/usr/bin/env python3
 """Jobs that bound what a job costs, as files below FOLDER: dear_jobs.py FOLDER
 
-small/   the least that is legal: no site, the worked example of document 01; and what moyo does not look at, candidates
-         of another multiplicity, of which 6 and 8 are to be decided all the same
+small/   the least that is legal: no site, the worked example of document 01; and where moyo does less: candidates of
+         another multiplicity, of which 6 and 8 are to be decided all the same; a target that no operation gives (11),
+         where moyo has nothing to zero
 dear/    the most: every listed site tried with every candidate at every offset; most sites and targets
 growth/  sites by candidates, each site its own orbit whose last candidate fits; sites by targets, one orbit
 """
@@ -16,6 +17,7 @@ from jobs import IDENTITY, Job, STILL  # noqa: E402
 
 DOUBLED = (2, 0, 0, 0, 2, 0, 0, 0, 1)  # four copies, the third coordinate as it was
 CENTRED = (1, -1, 0, 1, 1, 0, 0, 0, 1)  # moyo's Centering::C
+SHEARED = (1, 0, 0, 0, 1, 0, 1, 0, 1)
 HEXAGONAL = (5.1, -2.55, 0.0, 0.0, 4.4167, 0.0, 0.0, 0.0, 7.3)
 PLANES = ("x,y", "x,x", "x,-x", "x,2x", "2x,x", "x,0", "0,x", "0,0", "1/2,0", "0,1/2", "1/2,1/2", "x,1/2", "1/2,x",
           "1/3,2/3", "2/3,1/3", "x,-y")
@@ -67,6 +69,7 @@ def ring(sites):
 
 def small():
     yield "no_sites", Job(candidates=[(1, 97, text("x,y,z"))])
+    yield "no_sites_target_unknown", Job(targets=[(SHEARED, (0.0, 0.0, 0.0))], candidates=[(1, 97, text("x,y,z"))])
     yield "worked_example", Job(c=CENTRED, sites=[(0.0, 0.0, 0.0)], images=[0], candidates=[(2, 97, text("x,y,z"))])
     yield "1_site_63_candidates_never_tried", Job(
         HEXAGONAL, sites=[(0.1, 0.2, 0.3)], images=[0], candidates=missing(63, 2) + [(1, 122, text("x,y,z"))])
