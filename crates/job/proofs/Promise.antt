@@ -3,7 +3,7 @@ use Prim.Native.Nat.{ℕ, zero, suc, _+_}
 use mathlib.Core.Path.{_≡_, refl, sym, ap, subst, _∙_}
 use mathlib.Core.Bool.{true, false}
 use mathlib.Core.List.{List, _∷_, map}
-use mathlib.Core.Logic.{_⊎_, ⊎-elim}
+use mathlib.Core.Logic.{⊎-elim}
 use native.Mathlib.Omega.{arith}
 use lib.Dec.{T}
 use Rattle.definitions.specs.declared.JobCounts.{JobCounts}
@@ -13,7 +13,7 @@ use Rattle.definitions.specs.declared.Verdict.the-variants as verdict
 use Rattle.definitions.specs.Refusal.{Condition, accepted, refused, Checked}
 use Rattle.definitions.specs.Job.{Parts, IsJob, NoJob, float, positionOf, rowsOf, jobOf}
 use Rattle.definitions.specs.Lent.{cellsOf}
-use Rattle.definitions.specs.WholeCalls.{Given, givenOf, HoldsGiven, nothingGiven, tooShortFor, readConditions, countsOf, ReadPromise}
+use Rattle.definitions.specs.WholeCalls.{Given, givenOf, HoldsGiven, nothingGiven, tooShortFor, readConditions, ReadPromise}
 use Rattle.laws.specs.Tests.{so, not-so}
 use Rattle.laws.specs.Verdicts.{HoldsAt, Passed, found-at, found-none, refuse, accept, verdictOf, accepted-with, refused-with}
 use Rattle.job_laws.specs.Decode.{job-unique}

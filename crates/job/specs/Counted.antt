@@ -16,7 +16,8 @@ use Rattle.definitions.specs.Refusal.{job-bytes}
 use Rattle.definitions.specs.Job.{IsJob, NoJob}
 use Rattle.definitions.specs.WholeCalls.{countsOf}
 use Rattle.laws.specs.Tests.{neither, neither-left, neither-right}
-use Rattle.job.specs.Places.{partsAt, symprecFrom, length-items, wordAt, entriesAt, siteAt, operationAt, candidateAt}
+use Rattle.job.specs.Places.{partsAt, symprecFrom, length-items, wordAt, entriesAt}
+use Rattle.job.specs.Places.{siteAt, operationAt, candidateAt}
 use Rattle.job.specs.Places.{sitesFrom, operationsFrom, imagesFrom, targetsFrom, rotationsFrom, candidatesFrom}
 
 -- a test says whether P

@@ -20,7 +20,8 @@ use Rattle.definitions.specs.Job.{NoJob, positionOf}
 use Rattle.definitions.specs.Lent.{positionFrom}
 use Rattle.definitions.specs.WholeCalls.{Given, givenOf, HoldsGiven, nothingGiven}
 use Rattle.job.specs.Places.{items, wordAt, integerAt, floatsAt, textAt, latticeAt, cellsFrom, matrixFrom}
-use Rattle.job.specs.Places.{partsAt, operationsFrom, imagesFrom, targetsFrom, rotationsFrom, candidatesFrom, symprecFrom}
+use Rattle.job.specs.Places.{partsAt}
+use Rattle.job.specs.Places.{operationsFrom, imagesFrom, targetsFrom, rotationsFrom, candidatesFrom, symprecFrom}
 use Rattle.job.specs.Words.{floatAt}
 use Rattle.job.specs.Counted.{JobOf}
 

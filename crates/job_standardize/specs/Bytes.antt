@@ -1,21 +1,18 @@
 -- From the call on lists to the call on bytes: where the bytes are a job's, what the one promises the other does.
-use Prim.Native.Nat.{ℕ, _*_, _≤_, _<_}
-use mathlib.Core.Path.{_≡_, refl, sym, ap, _∙_, subst}
-use mathlib.Core.Bool.{Bool, true, false, not, _||_}
-use mathlib.Core.List.{List, [], _∷_, map}
+use Prim.Native.Nat.{ℕ}
+use mathlib.Core.Path.{refl, sym, subst}
+use mathlib.Core.List.{List}
 use mathlib.Core.Logic.{inl}
-use native.Mathlib.Omega.{arith}
-use lib.ListN.{length}
 use lib.Dec.{T}
 use Rattle.definitions.specs.declared.Standardized.{Standardized}
 use Rattle.definitions.specs.declared.Standardized.the-variants.{Refused}
 use Rattle.definitions.specs.Refusal.{Condition, _when_, Applies, NoneOf, upto, precedence, job-bytes, counts, Outcome}
 use Rattle.definitions.specs.Refusal.{accepted, refused, Returns}
-use Rattle.definitions.specs.Job.{Parts, IsJob, NoJob, Job, jobOf}
-use Rattle.definitions.specs.Standardize.{Rooms, badCounts, rules, jobConditions, OfParts, bytesConditions, Answer}
+use Rattle.definitions.specs.Job.{Parts, IsJob, NoJob, jobOf}
+use Rattle.definitions.specs.Standardize.{Rooms, badCounts, jobConditions, OfParts, bytesConditions, Answer}
 use Rattle.definitions.specs.Standardize.{IsAnswer}
-use Rattle.definitions.specs.WholeCalls.{Given, jobFrom, unlikeLists, listsConditions, AnswerCells, roomsOf, HoldsAnswer}
-use Rattle.definitions.specs.WholeCalls.{nothingAnswered, toldWhole, ListsPromise, BytesPromise, givenOf}
+use Rattle.definitions.specs.WholeCalls.{jobFrom, unlikeLists, listsConditions, AnswerCells, roomsOf, HoldsAnswer}
+use Rattle.definitions.specs.WholeCalls.{nothingAnswered, ListsPromise, BytesPromise, givenOf}
 use Rattle.laws.specs.Order.{none-over, later-applies, applies-later}
 use Rattle.laws.specs.Tests.{not-so}
 use Rattle.symmetrize_standardize_laws.specs.Whole.{job-to-bytes, bytes-to-job}

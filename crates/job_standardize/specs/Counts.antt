@@ -52,7 +52,9 @@ module _ (p : Parts) where
 
   bad-is : bad ≡ badCounts (jobOf p)
   unfolding jobOf
-  bad-is = rw (length-map (p .sites) siteOf, length-map (p .operations) operationOf, length-map (p .targets) operationOf, length-map (p .rotations) rowsOf, length-map (p .candidates) candidateOf)
+  bad-is =
+      rw (length-map (p .sites) siteOf, length-map (p .operations) operationOf, length-map (p .targets) operationOf)
+      (rw (length-map (p .rotations) rowsOf, length-map (p .candidates) candidateOf))
 
   module _ (h : bad ≡ false) where
     abbrev first-five : Bool

@@ -1,17 +1,13 @@
 -- The lists of a job's parts, taken as arguments of the call on lists, are the job that the parts are.
-use Prim.Native.Nat.{ℕ}
 use mathlib.Core.Path.{_≡_, refl, sym, ap, _∙_}
-use mathlib.Core.Bool.{Bool, false, not, _||_}
+use mathlib.Core.Bool.{false, not}
 use mathlib.Core.List.{List, [], _∷_, map}
 use borrow.Author.Tests.{eq-eqb}
 use lib.ListN.{length, length-map}
-use lib.Dec.{eqb}
-use lib.IntN.{ℤ}
-use Rattle.definitions.specs.Matrix.{Matrix}
-use Rattle.definitions.specs.Job.{Parts, SitePart, OperationPart, CandidatePart, Job, Site, Operation, Candidate}
+use Rattle.definitions.specs.Job.{Parts, SitePart, OperationPart, CandidatePart}
 use Rattle.definitions.specs.Job.{positionOf, rowsOf, siteOf, operationOf, candidateOf, jobOf}
 use Rattle.definitions.specs.Lent.{cellsOf, sitesFrom, operationsFrom, candidatesFrom, unlike}
-use Rattle.definitions.specs.WholeCalls.{Given, jobFrom, unlikeLists, givenOf}
+use Rattle.definitions.specs.WholeCalls.{jobFrom, unlikeLists, givenOf}
 use Rattle.laws.specs.Tests.{neither}
 
 sites-are :

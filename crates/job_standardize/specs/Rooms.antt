@@ -69,7 +69,8 @@ exact f l zero old cells h e =
     h ∙ ap (λ n. map f l ++ replicate n zero) none-left ∙ append-nil (map f l)
 
 itself :
-    {A : Type 0} (l : List A) (zero : A) (old cells : List A) → Holds zero old cells l → length old ≡ length l → cells ≡ l
+    {A : Type 0} (l : List A) (zero : A) (old cells : List A) → Holds zero old cells l → length old ≡ length l →
+    cells ≡ l
 itself l zero old cells h e =
     let none-left : length old - length l ≡ 0 = omega (arith, e) in
     h ∙ ap (λ n. l ++ replicate n zero) none-left ∙ append-nil l
@@ -90,7 +91,10 @@ module _ (bs : List ℕ) (k : JobCounts) (entry exit : Given) (just : JustRoom b
       (three-rooms (k .candidates) _ _ _ (just .multiplicities) (just .letters) (just .texts))
 
   is-readable : readable bs k (roomsOf entry) ≡ true
-  is-readable = rw (le-ltb most-bytes (length bs) (just .job .few), eq-eqb (symprecFrom k + 10) (length bs) (just .job .room), fits)
+  is-readable =
+      let few = le-ltb most-bytes (length bs) (just .job .few) in
+      let just-so = eq-eqb (symprecFrom k + 10) (length bs) (just .job .room) in
+      rw (few, just-so, fits)
 
   held : ReadCounted bs k entry exit → HoldsGiven entry exit (givenOf (partsAt bs k))
   held h = subst (HoldsGiven entry exit) (ap (λ b. countedGiven b bs k) is-readable) h

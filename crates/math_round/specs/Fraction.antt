@@ -1,12 +1,13 @@
--- What a float is off a whole number, by sums alone. From 2 ^ 52 to 2 ^ 53 the floats are the whole numbers: a sum that comes to lie there is
--- one, and what it is more than a number in the middle of them is a whole number beside d. If d is less than a half off that, it is
--- the one that d is rounded to.
+-- What a float is off a whole number, by sums alone. From 2 ^ 52 to 2 ^ 53 the floats are the whole numbers: a sum
+-- that comes to lie there is one, and what it is more than a number in the middle of them is a whole number beside d.
+-- If d is less than a half off that, it is the one that d is rounded to.
 use Prim.Native.Nat.{ℕ, zero, suc, _+_, _*_, _-_, _/_, _^_, _≤_, _<_}
 use mathlib.Core.Path.{_≡_, refl, sym, ap, _∙_, subst}
 use mathlib.Core.Bool.{Bool, true, false, not, cond, _&&_}
 use mathlib.Core.Logic.{_⊎_, inl, inr, ⊎-elim}
 use native.Mathlib.Omega.{arith}
-use native.Mathlib.Nat.{mul-one, mul-pos, zero-lt-suc, le-of-suc-le-suc, le-antisymm, lt-of-not-le, le-div-iff-mul-le, div-lt-iff-lt-mul, zero-mul}
+use native.Mathlib.Nat.{mul-pos, zero-mul, zero-lt-suc, le-of-suc-le-suc, le-antisymm, lt-of-not-le}
+use native.Mathlib.Nat.{le-div-iff-mul-le, div-lt-iff-lt-mul}
 use native.Mathlib.Decide.{decLe}
 use borrow.Author.Tests.{ltb-true, ltb-false}
 use lib.Dec.{T, ltb, ltb→lt, lit<}
@@ -18,11 +19,11 @@ use lib.Ieee.Exact.{HasValue}
 use lib.Ieee.Back.{round-whole}
 use lib.Ieee.Order.{round-mono}
 use lib.Ieee.Scale.{round-same}
-use lib.Ieee.Positive.{positive, num, den, above-of-le, between, le→cross}
+use lib.Ieee.Positive.{positive, above-of-le, between, le→cross}
 use Rattle.definitions.specs.Real.{zeroF, roundAway}
 use Rattle.math_round.specs.Value.{neg-round}
-use Rattle.math_round.specs.Nearest.{fit-of}
-use Rattle.math_round.specs.Sums.{add-at, plus-nothing, neg-value, scaled, own-value}
+use Rattle.laws.specs.Floats.{fit-of, own-value}
+use Rattle.math_round.specs.Sums.{add-at, plus-nothing, neg-value, scaled}
 
 -- ---- literals of the code
 
@@ -107,7 +108,8 @@ whole-between u f h k = by u f low high (between (fin false 1 (pos 52)) u (fin f
     two k = pow-mono {i = 1} {j = suc k} (omega arith)
 
     by :
-        (u : Float) → T (fits binary64 u) → T (le (fin false 1 (pos 52)) u) → T (le u (fin false 1 (pos 53))) → T (positive u) →
+        (u : Float) → T (fits binary64 u) → T (le (fin false 1 (pos 52)) u) → T (le u (fin false 1 (pos 53))) →
+        T (positive u) →
         (n : ℕ) × HasValue u false n 1 × (n ≤ 2 ^ 53)
     by nan f h k p = absurd p
     by (inf s) f h k p = absurd p
@@ -186,7 +188,8 @@ beside u f h k =
     let m = 3 * 2 ^ 51 in
     let opposite : HasValue (neg middle) true m 1 =
     neg-value middle false m 1 (subst (λ (z : Float). HasValue z false m 1) (sym middle-is) (refl, refl)) in
-    let sum-is : sub binary64 u middle ≡ sum binary64 false n true m 1 = add-at u (neg middle) false true n m 1 (lit< tt) v opposite in
+    let sum-is : sub binary64 u middle ≡ sum binary64 false n true m 1 =
+    add-at u (neg middle) false true n m 1 (lit< tt) v opposite in
     let found = by n few (ltb n m) in
     record {
       sign = found .0;
@@ -197,16 +200,21 @@ beside u f h k =
   where
     by :
         (n : ℕ) → n ≤ 2 ^ 53 → (b : Bool) →
-        (s : Bool) × (k : ℕ) × HasValue (cond b (round binary64 true (3 * 2 ^ 51 - n) 1) (round binary64 false (n - 3 * 2 ^ 51) 1)) s k 1 × (k ≤ 2 ^ 53)
+        (s : Bool)
+        × (k : ℕ)
+        × HasValue (cond b (round binary64 true (3 * 2 ^ 51 - n) 1) (round binary64 false (n - 3 * 2 ^ 51) 1)) s k 1
+        × (k ≤ 2 ^ 53)
     by n h true = (true, 3 * 2 ^ 51 - n, round-whole binary64 true (3 * 2 ^ 51 - n) (omega arith), omega arith)
-    by n h false = (false, n - 3 * 2 ^ 51, round-whole binary64 false (n - 3 * 2 ^ 51) (omega (arith, h)), omega (arith, h))
+    by n h false =
+        (false, n - 3 * 2 ^ 51, round-whole binary64 false (n - 3 * 2 ^ 51) (omega (arith, h)), omega (arith, h))
 
 -- ---- the number that a / c is rounded to
 
 nearest-number : (a n c : ℕ) → 0 < c → 2 * (n * c - a) < c → 2 * (a - n * c) < c → (2 * a + c) / (2 * c) ≡ n
 nearest-number a n c p above below =
     le-antisymm
-    (le-of-suc-le-suc (div-lt-iff-lt-mul {k = 2 * c} {x = 2 * a + c} {y = suc n} (omega arith) .1 (omega (arith, below))))
+    (le-of-suc-le-suc
+    (div-lt-iff-lt-mul {k = 2 * c} {x = 2 * a + c} {y = suc n} (omega arith) .1 (omega (arith, below))))
     (le-div-iff-mul-le {k = 2 * c} {x = n} {y = 2 * a + c} (omega arith) .1 (omega (arith, above)))
 
 -- the sum of a / c and ±x / c, by its signs
@@ -257,22 +265,29 @@ module _ (s : Bool) (m : ℕ) (e : ℤ) (f : T (fits binary64 (fin s (suc m) e))
       (own-value s (suc m) e f)
 
   -- less a whole number
-  less-whole : (x w : Float) (t : Bool) (n : ℕ) → HasValue x s a c → HasValue w t n 1 → sub binary64 x w ≡ sum binary64 s a (not t) (n * c) c
+  less-whole :
+      (x w : Float) (t : Bool) (n : ℕ) → HasValue x s a c → HasValue w t n 1 →
+      sub binary64 x w ≡ sum binary64 s a (not t) (n * c) c
   unfolding sub
-  less-whole x w t n v h = add-at x (neg w) s (not t) a (n * c) c (down-pos e) v (scaled (neg w) (not t) n c (neg-value w t n 1 h))
+  less-whole x w t n v h =
+      add-at x (neg w) s (not t) a (n * c) c (down-pos e) v (scaled (neg w) (not t) n c (neg-value w t n 1 h))
 
   rounded : (n : ℕ) → (2 * a + c) / (2 * c) ≡ n → roundAway d ≡ round binary64 s n 1
   unfolding roundAway
   rounded n h = ap (λ (k : ℕ). round binary64 s k 1) h
 
   -- d less the number n that it is rounded to
-  off-rounded : (n : ℕ) → n ≤ 2 ^ 53 → (2 * a + c) / (2 * c) ≡ n → sub binary64 d (roundAway d) ≡ sum binary64 s a (not s) (n * c) c
+  off-rounded :
+      (n : ℕ) → n ≤ 2 ^ 53 → (2 * a + c) / (2 * c) ≡ n →
+      sub binary64 d (roundAway d) ≡ sum binary64 s a (not s) (n * c) c
   off-rounded n few h =
       ap (sub binary64 d) (rounded n h)
       ∙ less-whole d (round binary64 s n 1) s n (refl, refl) (round-whole binary64 s n few)
 
   -- a whole number of d's sign
-  same-sign : (n : ℕ) → n ≤ 2 ^ 53 → Small (sum binary64 s a (not s) (n * c) c) → sum binary64 s a (not s) (n * c) c ≡ sub binary64 d (roundAway d)
+  same-sign :
+      (n : ℕ) → n ≤ 2 ^ 53 → Small (sum binary64 s a (not s) (n * c) c) →
+      sum binary64 s a (not s) (n * c) c ≡ sub binary64 d (roundAway d)
   same-sign n few h =
       let near = apart s a (n * c) c (down-pos e) h in
       sym (off-rounded n few (nearest-number a n c (down-pos e) (near .0) (near .1)))
@@ -285,18 +300,23 @@ module _ (s : Bool) (m : ℕ) (e : ℤ) (f : T (fits binary64 (fin s (suc m) e))
       over : (a k c : ℕ) → 2 * (a + suc k * c) < c → ⊥
       over a k c h = omega arith
 
-  other-sign : (n : ℕ) → n ≤ 2 ^ 53 → Small (sum binary64 s a s (n * c) c) → sum binary64 s a s (n * c) c ≡ sub binary64 d (roundAway d)
+  other-sign :
+      (n : ℕ) → n ≤ 2 ^ 53 → Small (sum binary64 s a s (n * c) c) →
+      sum binary64 s a s (n * c) c ≡ sub binary64 d (roundAway d)
   other-sign n few h =
       let near = together s a (n * c) c (down-pos e) h in
       let zero-c : n * c ≡ 0 = ap (λ (k : ℕ). k * c) (none n near) ∙ zero-mul c in
-      let cut : (2 * a + c) / (2 * c) ≡ n = nearest-number a n c (down-pos e) (omega (arith, zero-c, near)) (omega (arith, zero-c, near)) in
+      let cut : (2 * a + c) / (2 * c) ≡ n =
+      nearest-number a n c (down-pos e) (omega (arith, zero-c, near)) (omega (arith, zero-c, near)) in
       ap (λ (x : ℕ). sum binary64 s a s x c) zero-c
       ∙ plus-nothing s s a c some
       ∙ sym (plus-nothing s (not s) a c some)
       ∙ ap (λ (x : ℕ). sum binary64 s a (not s) x c) (sym zero-c)
       ∙ sym (off-rounded n few cut)
 
-  off-number : T (le least (pushed d)) → T (le (pushed d) greatest) → Small (offWhole d) → offWhole d ≡ sub binary64 d (roundAway d)
+  off-number :
+      T (le least (pushed d)) → T (le (pushed d) greatest) → Small (offWhole d) →
+      offWhole d ≡ sub binary64 d (roundAway d)
   off-number l g h =
       let b = beside (pushed d) (add-fits binary64 (add binary64 d zeroF) middle) l g in
       let is = less-whole (add binary64 d zeroF) (wholeBeside d) (b .sign) (b .number) own (b .is) in
@@ -325,7 +345,9 @@ unfolding sum
 zero-less-zero true c = refl
 zero-less-zero false c = refl
 
-zero-off-whole : sub binary64 (fin false 0 (pos 0)) (sub binary64 (add binary64 (fin false 0 (pos 0)) middle) middle) ≡ fin false 0 (pos 0)
+zero-off-whole :
+    sub binary64 (fin false 0 (pos 0)) (sub binary64 (add binary64 (fin false 0 (pos 0)) middle) middle)
+    ≡ fin false 0 (pos 0)
 unfolding sub ofBits
 zero-off-whole = refl
 
@@ -391,9 +413,13 @@ pub off-whole-is : (d : Float) → T (fits binary64 d) → settles d ≡ true �
 unfolding le add
 off-whole-is nan f h = absurd (subst (λ (z : Float). T (le z (pushed nan))) least-is (passed nan h .above))
 off-whole-is (inf true) f h =
-    absurd (subst (λ (z : Float). T (le (fin false 1 (pos 52)) z)) (pushed-far true) (subst (λ (z : Float). T (le z (pushed (inf true)))) least-is (passed (inf true) h .above)))
+    absurd
+    (subst (λ (z : Float). T (le (fin false 1 (pos 52)) z)) (pushed-far true)
+    (subst (λ (z : Float). T (le z (pushed (inf true)))) least-is (passed (inf true) h .above)))
 off-whole-is (inf false) f h =
-    absurd (subst (λ (z : Float). T (le z (fin false 1 (pos 53)))) (pushed-far false) (subst (λ (z : Float). T (le (pushed (inf false)) z)) greatest-is (passed (inf false) h .below)))
+    absurd
+    (subst (λ (z : Float). T (le z (fin false 1 (pos 53)))) (pushed-far false)
+    (subst (λ (z : Float). T (le (pushed (inf false)) z)) greatest-is (passed (inf false) h .below)))
 off-whole-is (fin s zero e) f h = off-zero s e
 off-whole-is (fin s (suc m) e) f h =
     let p = passed (fin s (suc m) e) h in

@@ -1,80 +1,21 @@
 -- The two readings of "nearest whole number, ties away from zero" agree: what `roundAway` computes is nearest, and only
 -- one float is.
-use Prim.Native.Nat.{ℕ, zero, suc, _+_, _*_, _-_, _/_, _%_, _^_, _≤_, _<_}
+use Prim.Native.Nat.{ℕ, suc, _+_, _*_, _/_, _^_, _≤_, _<_}
 use mathlib.Core.Path.{_≡_, refl, sym, ap, _∙_, subst}
-use mathlib.Core.Bool.{Bool, _&&_}
+use mathlib.Core.Bool.{Bool}
 use native.Mathlib.Omega.{arith}
-use native.Mathlib.Nat.{mul-one, mul-pos, mul-le-mul-right, mul-lt-mul-of-pos-right, lt-of-mul-lt-mul-right, le-antisymm, le-trans, le-of-suc-le-suc, eq-of-mul-eq-mul-right, mul-div-cancel, div-mul-le-self, lt-div-mul-add, lt-irrefl, lt-of-lt-of-le, lt-of-not-le}
-use native.Mathlib.Decide.{decLe}
-use lib.Dec.{T, eqb, ltb, leb, eqb→eq, ltb→lt, leb→le, lit≤, lit<}
+use native.Mathlib.Nat.{mul-one, mul-le-mul-right, mul-lt-mul-of-pos-right, lt-of-mul-lt-mul-right, le-antisymm, le-of-suc-le-suc, eq-of-mul-eq-mul-right, mul-div-cancel, div-mul-le-self, lt-div-mul-add}
+use lib.Dec.{T}
 use lib.IntN.{ℤ, pos, negsuc}
-use lib.Pow.{pow-add, pow-pos, pow-lt}
 use lib.Ieee.{Float, nan, inf, fin, binary64, up, down, round, fits}
-use lib.Ieee.Fits.{down-pos, round-fits, and-l, and-r}
+use lib.Ieee.Fits.{down-pos, round-fits}
 use lib.Ieee.Exact.{HasValue}
 use lib.Ieee.Back.{round-whole, whole-unique}
 use Rattle.definitions.specs.Real.{unitsOf, isFinite, negative, IsRound, roundAway}
-use Rattle.math_round.specs.Value.{nearestPart, nearestPart-le, whole-value}
-
--- what `fits` says of m * 2 ^ e
-pub record Fit (m : ℕ) (e : ℤ) : Type 0 where
-  pub digits : m < 2 ^ 53
-  pub fine : down e ≤ 2 ^ 1074
-  pub in-range : m * up e < 2 ^ 1024 * down e
-
-zero-fine : (e : ℤ) → up e * down e ≡ 1 → down e ≤ 1
-zero-fine (pos k) h = lit≤ tt
-zero-fine (negsuc k) h = at (2 ^ suc k) h
-  where
-    at : (d : ℕ) → 1 * d ≡ 1 → d ≤ 1
-    at d h = omega arith
-
-pub fit-of : (s : Bool) (m : ℕ) (e : ℤ) → T (fits binary64 (fin s m e)) → Fit m e
-unfolding fits
-fit-of s zero e t =
-    record {
-      digits = lit< tt;
-      fine = le-trans (zero-fine e (eqb→eq (up e * down e) 1 t)) (lit≤ tt);
-      in-range = subst (λ y. y < 2 ^ 1024 * down e) (sym (nothing (up e))) (mul-pos (pow-pos 1024) (down-pos e));
-    }
-  where
-    nothing : (a : ℕ) → 0 * a ≡ 0
-    nothing a = omega arith
-fit-of s (suc m) e t =
-    let odd = eqb (suc m % 2) 1 in
-    let digits = ltb (suc m) (2 ^ 53) in
-    let fine = leb (down e) (2 ^ 1074) in
-    let range = ltb (suc m * up e) (2 ^ 1024 * down e) in
-    let t₃ = and-l (odd && digits && fine) range t in
-    record {
-      digits = ltb→lt (suc m) (2 ^ 53) (and-r odd digits (and-l (odd && digits) fine t₃));
-      fine = leb→le (down e) (2 ^ 1074) (and-r (odd && digits) fine t₃);
-      in-range = ltb→lt (suc m * up e) (2 ^ 1024 * down e) (and-r (odd && digits && fine) range t);
-    }
+use Rattle.laws.specs.Floats.{Fit, fit-of, divides, whole-value}
+use Rattle.math_round.specs.Value.{nearestPart, nearestPart-le}
 
 -- ---- units of 2 ^ -1074
--- a denominator that fits divides 2 ^ 1074
-pub record Divides (d : ℕ) : Type 0 where
-  pub q : ℕ
-  pub is : 2 ^ 1074 ≡ d * q
-  pub some : 0 < q
-
-unfoldable pub divides : (e : ℤ) → down e ≤ 2 ^ 1074 → Divides (down e)
-divides (pos k) h = record { q = 2 ^ 1074; is = refl; some = pow-pos 1074 }
-divides (negsuc k) h = record { q = 2 ^ (1074 - suc k); is = at 1074 h; some = pow-pos (1074 - suc k) }
-  where
-    few : (l : ℕ) → 2 ^ suc k ≤ 2 ^ l → suc k ≤ l
-    few l h = by (decLe (suc k) l)
-      where
-        by : Dec (suc k ≤ l) → suc k ≤ l
-        by (yes p) = p
-        by (no n) = absurd (lt-irrefl (2 ^ l) (lt-of-lt-of-le (pow-lt (lt-of-not-le n)) h))
-
-    at : (l : ℕ) → 2 ^ suc k ≤ 2 ^ l → 2 ^ l ≡ 2 ^ suc k * 2 ^ (l - suc k)
-    at l h =
-        let p = few l h in
-        let e : l ≡ suc k + (l - suc k) = omega arith in
-        ap (λ y. 2 ^ y) e ∙ pow-add 2 (suc k) (l - suc k)
 
 whole-quotient : (M D Q : ℕ) → 0 < D → M * (D * Q) / D ≡ M * Q
 whole-quotient M D Q p = ap (λ y. y / D) (turn M D Q) ∙ mul-div-cancel (M * Q) p

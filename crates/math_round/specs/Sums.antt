@@ -1,20 +1,17 @@
 -- Sums of floats by the values of their terms, whatever fractions these are written as.
-use Prim.Native.Nat.{ℕ, zero, suc, _+_, _*_, _-_, _^_, _≤_, _<_}
-use mathlib.Core.Path.{_≡_, refl, sym, ap, _∙_, subst}
+use Prim.Native.Nat.{ℕ, _+_, _*_, _-_, _≤_, _<_}
+use mathlib.Core.Path.{_≡_, refl, sym, ap, _∙_}
 use mathlib.Core.Bool.{Bool, true, false, not, cond, _&&_}
 use native.Mathlib.Omega.{arith}
-use native.Mathlib.Nat.{mul-one, mul-comm, mul-assoc, mul-right-comm, mul-sub, mul-pos, mul-le-mul-right, le-of-mul-le-mul-right, le-trans, le-of-eq, lt-of-not-le, lt-of-lt-of-le, add-zero}
+use native.Mathlib.Nat.{mul-one, mul-comm, mul-assoc, mul-right-comm, mul-sub, mul-pos, add-zero, le-trans, le-of-eq}
+use native.Mathlib.Nat.{mul-le-mul-right, le-of-mul-le-mul-right, lt-of-not-le}
 use native.Mathlib.Decide.{decLe}
 use borrow.Author.Tests.{lt-ltb, le-ltb}
-use lib.Dec.{T, ltb}
-use lib.IntN.{ℤ, pos, negsuc}
-use lib.Pow.{pow-pos, pow-mono, shl-lt}
-use lib.Ieee.{Float, nan, inf, fin, binary64, up, down, round, sum, add, neg, fits}
+use lib.Dec.{ltb}
+use lib.Ieee.{Float, nan, inf, fin, binary64, up, down, round, sum, add, neg}
 use lib.Ieee.Fits.{down-pos}
-use lib.Ieee.Exact.{HasValue, round-exact}
+use lib.Ieee.Exact.{HasValue}
 use lib.Ieee.Scale.{round-same}
-use Rattle.math_round.specs.Value.{whole-value}
-use Rattle.math_round.specs.Nearest.{Fit, fit-of, divides}
 
 -- ---- fractions of one denominator, C or c
 
@@ -24,7 +21,8 @@ module _ (A B C a b c : ℕ) (P : 0 < C) (p : 0 < c) (e : A * c ≡ a * C) (f : 
     where
       by : Dec (b ≤ a) → ltb A B ≡ ltb a b
       by (yes h) =
-          le-ltb A B (le-of-mul-le-mul-right (le-trans (le-of-eq f) (le-trans (mul-le-mul-right C h) (le-of-eq (sym e)))) p)
+          le-ltb A B
+          (le-of-mul-le-mul-right (le-trans (le-of-eq f) (le-trans (mul-le-mul-right C h) (le-of-eq (sym e)))) p)
           ∙ sym (le-ltb a b h)
       by (no n) =
           lt-ltb A B
@@ -102,9 +100,12 @@ plus-nothing s t a c h = by s t
     rest : a - 0 ≡ a
     rest = omega arith
 
-    one : (s t : Bool) → cond (ltb a 0) (round binary64 t (0 - a) c) (round binary64 (s && ltb 0 a) (a - 0) c) ≡ round binary64 s a c
+    one :
+        (s t : Bool) →
+        cond (ltb a 0) (round binary64 t (0 - a) c) (round binary64 (s && ltb 0 a) (a - 0) c) ≡ round binary64 s a c
     one s t =
-        ap (λ (o : Bool). cond o (round binary64 t (0 - a) c) (round binary64 (s && ltb 0 a) (a - 0) c)) (le-ltb a 0 (omega arith))
+        ap (λ (o : Bool). cond o (round binary64 t (0 - a) c) (round binary64 (s && ltb 0 a) (a - 0) c))
+        (le-ltb a 0 (omega arith))
         ∙ (λ i. round binary64 (sign s i) (rest i) c)
 
     by : (s t : Bool) → sum binary64 s a t 0 c ≡ round binary64 s a c
@@ -125,23 +126,5 @@ neg-value (fin t m e) s a c v = (ap not (v .0), v .1)
 pub scaled : (x : Float) (s : Bool) (n c : ℕ) → HasValue x s n 1 → HasValue x s (n * c) c
 scaled nan s n c v = absurd v
 scaled (inf t) s n c v = absurd v
-scaled (fin t m e) s n c v = (v .0, ap (λ (z : ℕ). z * c) (sym (mul-one (m * up e)) ∙ v .1) ∙ mul-right-comm n (down e) c)
-
--- a float's own value is not rounded
-pub own-value :
-    (s : Bool) (m : ℕ) (e : ℤ) → T (fits binary64 (fin s m e)) →
-    HasValue (round binary64 s (m * up e) (down e)) s (m * up e) (down e)
-unfolding divides
-own-value s m (pos k) f = let g = fit-of s m (pos k) f in whole-value s m k (g .digits) (g .in-range)
-own-value s m (negsuc k) f =
-    let g = fit-of s m (negsuc k) f in
-    let d = divides (negsuc k) (g .fine) in
-    round-exact binary64 s (m * 1) (2 ^ suc k) m (1074 - suc k) (down-pos (negsuc k)) (g .digits)
-    (lt-of-lt-of-le (shl-lt 53 (1074 - suc k) (g .digits)) (pow-mono {i = 53 + (1074 - suc k)} {j = 2098} (within (suc k))))
-    (ap (λ (z : ℕ). m * 1 * z) (d .is) ∙ turn m (2 ^ suc k) (d .q))
-  where
-    within : (k : ℕ) → 53 + (1074 - k) ≤ 2098
-    within k = omega arith
-
-    turn : (m D Q : ℕ) → m * 1 * (D * Q) ≡ m * Q * D
-    turn m D Q = omega arith
+scaled (fin t m e) s n c v =
+    (v .0, ap (λ (z : ℕ). z * c) (sym (mul-one (m * up e)) ∙ v .1) ∙ mul-right-comm n (down e) c)

@@ -4,15 +4,16 @@ use Prim.Native.Nat.{ℕ, zero, suc, _+_, _*_, _-_, _/_, _%_, _^_, _≤_, _<_, c
 use mathlib.Core.Path.{_≡_, refl, sym, ap, _∙_, subst}
 use mathlib.Core.Bool.{Bool, true, false, not, cond}
 use native.Mathlib.Omega.{arith}
-use native.Mathlib.Nat.{add-zero, mul-pos, mul-one, mul-le-mul, le-of-suc-le-suc, div-eq-of-lt, div-lt-iff-lt-mul}
+use native.Mathlib.Nat.{add-zero, mul-pos, mul-le-mul, le-of-suc-le-suc, div-eq-of-lt, div-lt-iff-lt-mul}
 use lib.Dec.{T, eqb, ltb}
-use lib.Pow.{pow-add, pow-pos, pow-mono, shl-lt}
+use lib.Pow.{pow-add, pow-pos, pow-mono}
 use lib.Ieee.{Float, nan, inf, fin, binary64, up, down, size, nearest, round, odd, units, neg, fits, low, isNan, toBits}
 use lib.Ieee.Fits.{down-pos, round-is, round-fits}
-use lib.Ieee.Exact.{HasValue, round-exact}
+use lib.Ieee.Exact.{HasValue}
 use lib.Ieee.Back.{round-whole, whole-unique}
 use lib.Ieee.Nearest.{div-same}
 use Rattle.definitions.specs.Real.{roundAway}
+use Rattle.laws.specs.Floats.{whole-value}
 
 cross : (M D a c : ℕ) → M * c ≡ a * D → (2 * M + D) * (2 * c) ≡ (2 * a + c) * (2 * D)
 cross M D a c h = omega arith
@@ -68,16 +69,6 @@ roundAway-below-half v g a h e =
   where
     none : (a u : ℕ) → 2 * a < u → (2 * a + u) / (2 * u) ≡ 0
     none a u h = div-eq-of-lt (omega arith)
-
-assoc-one : (a b c : ℕ) → a * b * c ≡ a * (b * c) * 1
-assoc-one a b c = omega arith
-
--- a whole number of at most 53 leading digits, in the range, is a float's value
-pub whole-value : (g : Bool) (n k : ℕ) → n < 2 ^ 53 → n * 2 ^ k < 2 ^ 1024 → HasValue (round binary64 g (n * 2 ^ k) 1) g (n * 2 ^ k) 1
-whole-value g n k h l =
-    let eq : n * 2 ^ k * 2 ^ 1074 ≡ n * 2 ^ (k + 1074) * 1 = rw (pow-add 2 k 1074) (assoc-one n (2 ^ k) (2 ^ 1074)) in
-    let big : n * 2 ^ (k + 1074) < 2 ^ 2098 = subst (λ y. y < 2 ^ 2098) (eq ∙ mul-one (n * 2 ^ (k + 1074))) (shl-lt 1024 1074 l) in
-    round-exact binary64 g (n * 2 ^ k) 1 n (k + 1074) (omega arith) h big eq
 
 -- a whole number is rounded to itself
 pub roundAway-of-whole : (v : Float) (g : Bool) (n k : ℕ) → T (fits binary64 v) → n < 2 ^ 53 → n * 2 ^ k < 2 ^ 1024 → HasValue v g (n * 2 ^ k) 1

@@ -10,7 +10,7 @@ use borrow.Author.Tests.{le-ltb, lt-ltb, eq-eqb}
 use Rattle.definitions.specs.declared.Verdict.the-variants.{Accepted, Refused}
 use Rattle.definitions.specs.declared.Standardized.the-variants as standardized
 use Rattle.definitions.specs.Lists.{all, any, Each}
-use Rattle.definitions.specs.Refusal.{Checked, Holds, accepted, orbit-fit}
+use Rattle.definitions.specs.Refusal.{Checked, Holds, orbit-fit}
 use Rattle.definitions.specs.Limits.{copies, tooManyListed, tooManyCandidates, shorterThan}
 use Rattle.definitions.specs.Snf.{Run, points}
 use Rattle.definitions.specs.Job.{Job}

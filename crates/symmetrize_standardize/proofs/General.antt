@@ -1,11 +1,11 @@
 -- Stage by stage: a verdict by tests in the order of the conditions, and what a sub-call's verdict says of a condition.
 use Prim.Native.Nat.{ℕ, suc}
-use mathlib.Core.Path.{_≡_, refl, subst}
+use mathlib.Core.Path.{_≡_, subst}
 use mathlib.Core.Bool.{Bool, true, false, cond}
 use mathlib.Core.List.{List}
 use mathlib.Core.Option.{some}
 use native.Mathlib.Omega.{arith}
-use lib.Dec.{T, eqb, eqb-refl, eqb→eq}
+use lib.Dec.{T, eqb-refl, eqb→eq}
 use Rattle.definitions.specs.declared.Verdict.{Verdict}
 use Rattle.definitions.specs.declared.Verdict.the-variants.{Accepted, Refused}
 use Rattle.definitions.specs.Refusal.{Condition, Applies, Checked, accepted, refused, Returns, Promised}

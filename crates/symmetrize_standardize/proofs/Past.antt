@@ -11,7 +11,7 @@ use lib.Dec.{T, ltb, eqb}
 use borrow.Author.Tests.{ltb-false, le-ltb, eq-eqb, eqb-false}
 use Rattle.definitions.specs.declared.Verdict.{Verdict}
 use Rattle.definitions.specs.declared.Verdict.the-variants.{Accepted}
-use Rattle.definitions.specs.Lists.{all, any, Some, each, Each, upTo}
+use Rattle.definitions.specs.Lists.{all, any, Some, Each, upTo}
 use Rattle.definitions.specs.Refusal.{Applies, NoneOf, Checked, Past, precedence, upto, orbit-fit}
 use Rattle.definitions.specs.Limits.{notUnimodular, badCopies, copies, tooManyListed, most-copies, shorterThan}
 use Rattle.definitions.specs.Snf.{Leaves}
@@ -23,7 +23,7 @@ use Rattle.definitions.specs.Calls.{centringConditions, pointsConditions, align
 use Rattle.definitions.specs.SiteCalls.{prepareAllConditions, LabelArguments, badMapping, LabelCells, labelRooms, IsLabelled, HoldsLabels}
 use Rattle.definitions.specs.Standardize.{Rooms, siteCount, listedCount, listedRooms, tooShort, BadCoordinates, TextLeaves, jobConditions}
 use Rattle.definitions.specs.WholeCalls.{Given, jobFrom}
-use Rattle.laws.specs.Tests.{so, not-so, off, neither, neither-left, neither-right, true-of}
+use Rattle.laws.specs.Tests.{not-so, off, neither, neither-left, neither-right, true-of}
 use Rattle.laws.specs.Lists.{all-head, all-tail, all-cons, none-head, none-tail, length-each, length-upFrom}
 use Rattle.laws.specs.Order.{numbered}
 use Rattle.laws.specs.Verdicts.{Passed, found-none, accept, verdictOf}

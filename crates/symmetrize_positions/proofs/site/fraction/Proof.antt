@@ -3,9 +3,8 @@ use mathlib.Core.Path.{_≡_, sym, _∙_}
 use mathlib.Core.Bool.{Bool, true, _&&_}
 use lib.Dec.{T}
 use lib.Ieee.{binary64, fits}
-use Rattle.definitions.specs.Symmetrization.{offRound}
 use Rattle.laws.specs.Tests.{so, true-of, both-pass}
-use Rattle.math_round.specs.Fraction.{offWhole, settles, off-whole-is}
+use Rattle.math_round.specs.Fraction.{settles, off-whole-is}
 use borrow.Author.Needs.{needs}
 use Rattle.symmetrize_positions.proofs.site.fraction.Statement.{statement}
 use Rattle.symmetrize_positions.proofs.site.fraction.Tie as tie
