@@ -16,6 +16,7 @@ use job::layout::counted;
 use job::layout::more_than;
 use job::read_counted;
 use math_real::position::position_of;
+use symmetrize_standardize::USUAL_IMAGES;
 use symmetrize_standardize::clear_answer;
 use symmetrize_standardize::standardize;
 ghost use mathlib.Core.Path.{_≡_};
@@ -26,9 +27,6 @@ ghost use Rattle.job.specs.Counted.{JobOf, Within};
 ghost use Rattle.job_standardize.specs.Counts.{most-legal};
 ghost use Rattle.job_standardize.specs.Counted.{Legal};
 ghost use Rattle.job_standardize.specs.Rooms.{JustRoom};
-
-// Most jobs have no more images; zeroing the others would cost them more than the reading.
-const USUAL_IMAGES: usize = 1024;
 
 // ---- counts
 

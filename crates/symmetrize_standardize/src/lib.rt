@@ -33,8 +33,9 @@ ghost use Rattle.definitions.specs.Limits as Limits;
 ghost use Rattle.definitions.specs.WholeCalls.{HoldsAnswer, nothingAnswered, ListsPromise};
 ghost use Rattle.symmetrize_standardize.specs.Stages.{Roomy, CellListed, Finished, imagesRoom, Uncleared};
 
-// Most jobs have no more images, and do not pay for zeroing the others.
-const USUAL_IMAGES: usize = 1024;
+// Most jobs have no more images, and do not pay for zeroing the others: of those given, in the call on bytes, and of
+// those aligned.
+pub const USUAL_IMAGES: usize = 1024;
 
 const NO_BASIS: Basis = [[0.0, 0.0, 0.0], [0.0, 0.0, 0.0], [0.0, 0.0, 0.0]];
 
