@@ -1,8 +1,10 @@
-"""Patterns through `round`, `sqrt` and `remainder`.
+"""Patterns through `round` and its steps, `sqrt` and `remainder`.
 
-Expected: ties away from zero by exact fractions; the machine's IEEE 754 square root and C's fmod, by way of `math`.
+Expected: ties away from zero and the case of rounding by exact fractions, and the placing that request M-104 of document
+02 was given; the machine's IEEE 754 square root and C's fmod, by way of `math`.
 """
 import math
+import struct
 from fractions import Fraction
 
 from records import case, pattern, value
@@ -28,7 +30,7 @@ class Random:
 
 
 def bits_of(x):
-    return int(pattern(float(x)), 16)
+    return int.from_bytes(struct.pack("<d", x), "little")
 
 
 def around(*patterns):
@@ -96,6 +98,22 @@ def rounded(x):
     return math.copysign(float(math.floor(abs(Fraction(x)) + Fraction(1, 2))), x)
 
 
+# the step that settles each, as the request was read before there was code
+PLACED = {
+    "special": [math.nan, math.inf, -math.inf, 0.0, -0.0],
+    "nearest": [5e-324, -0.4, 0.49999999999999994, 1.0, -3.0, 2.0**52 + 1, 2.0**60, 1.7e308, 0.7, 2.4999999999999996],
+    "tie": [0.5, -0.5, 1.5, -1.5, 2.5, 2.0**51 + 0.5, 2.0**52 - 0.5],
+}
+
+
+def step(x):
+    """A special value is a zero or not finite; a tie is an odd number of halves."""
+    if x == 0 or not math.isfinite(x):
+        return "special"
+    halves = 2 * Fraction(x)
+    return "tie" if halves.denominator == 1 and halves.numerator % 2 == 1 else "nearest"
+
+
 def root(x):
     return math.nan if x < 0 else math.sqrt(x)
 
@@ -108,9 +126,14 @@ def cases(oracle):
     random = Random(20)
     plain, half, power, square, any_one = special(), ties(random), powers(), squares(random), anything(random)
     out = []
-    for bits in dict.fromkeys(plain + half + power + square + any_one):
+    patterns = list(dict.fromkeys(plain + half + power + square + any_one))
+    for bits in patterns:
         for tag, f in (("r", rounded), ("q", root)):
             out.append(case(tag, [bits.to_bytes(8, "little")], ["%x" % bits, pattern(f(value(bits)))]))
+    placed = [(bits_of(x), name) for name, xs in PLACED.items() for x in xs]
+    assert all(step(value(bits)) == name for bits, name in placed)
+    for bits, name in dict.fromkeys(placed + [(bits, step(value(bits))) for bits in patterns]):
+        out.append(case("s", [bits.to_bytes(8, "little")], ["%x" % bits, name, pattern(rounded(value(bits)))]))
     designs = [bits_of(x) for x in (-1.25, -1.0, 1.0, 0.75, -0.75, 2.0, -3.5, 1000.0, -999.9999999999999)]
     of_triples = list(dict.fromkeys(designs + plain + half[:120] + power + any_one[-260:]))
     for at in range(0, len(of_triples) - 2, 3):

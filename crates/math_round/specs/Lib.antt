@@ -1,5 +1,7 @@
 pub mod Value
-pub mod Pattern
 pub mod Nearest
+pub mod Cases
+pub mod Rounded
+pub mod Pattern
 pub mod Sums
 pub mod Fraction

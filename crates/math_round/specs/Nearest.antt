@@ -23,7 +23,7 @@ whole-quotient M D Q p = ap (λ y. y / D) (turn M D Q) ∙ mul-div-cancel (M * Q
     turn : (M D Q : ℕ) → M * (D * Q) ≡ M * Q * D
     turn M D Q = omega arith
 
-units-are : (s : Bool) (m : ℕ) (e : ℤ) (q : ℕ) → 2 ^ 1074 ≡ down e * q → unitsOf (fin s m e) ≡ m * up e * q
+pub units-are : (s : Bool) (m : ℕ) (e : ℤ) (q : ℕ) → 2 ^ 1074 ≡ down e * q → unitsOf (fin s m e) ≡ m * up e * q
 unfolding unitsOf
 units-are s m e q h = ap (λ y. m * up e * y / down e) h ∙ whole-quotient (m * up e) (down e) q (down-pos e)
 

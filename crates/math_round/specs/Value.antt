@@ -1,19 +1,17 @@
--- `roundAway` depends on a float's value alone; what it is of a whole number, of a fraction of some places, and below a
--- half.
+-- `roundAway` depends on a float's value alone; the sign of a rounded number and its pattern.
 use Prim.Native.Nat.{ℕ, zero, suc, _+_, _*_, _-_, _/_, _%_, _^_, _≤_, _<_, compare}
 use mathlib.Core.Path.{_≡_, refl, sym, ap, _∙_, subst}
 use mathlib.Core.Bool.{Bool, true, false, not, cond}
 use native.Mathlib.Omega.{arith}
-use native.Mathlib.Nat.{add-zero, mul-pos, mul-le-mul, le-of-suc-le-suc, div-eq-of-lt, div-lt-iff-lt-mul}
+use native.Mathlib.Nat.{add-zero, mul-le-mul, le-of-suc-le-suc, div-lt-iff-lt-mul}
 use lib.Dec.{T, eqb, ltb}
-use lib.Pow.{pow-add, pow-pos, pow-mono}
-use lib.Ieee.{Float, nan, inf, fin, binary64, up, down, size, nearest, round, odd, units, neg, fits, low, isNan, toBits}
-use lib.Ieee.Fits.{down-pos, round-is, round-fits}
+use lib.Pow.{pow-pos}
+use lib.Ieee.{Float, nan, inf, fin, binary64, up, down, size, nearest, round, odd, units, neg, low, isNan, toBits}
+use lib.Ieee.Fits.{down-pos, round-is}
 use lib.Ieee.Exact.{HasValue}
-use lib.Ieee.Back.{round-whole, whole-unique}
+use lib.Ieee.Back.{round-whole}
 use lib.Ieee.Nearest.{div-same}
 use Rattle.definitions.specs.Real.{roundAway}
-use Rattle.laws.specs.Floats.{whole-value}
 
 cross : (M D a c : ℕ) → M * c ≡ a * D → (2 * M + D) * (2 * c) ≡ (2 * a + c) * (2 * D)
 cross M D a c h = omega arith
@@ -38,47 +36,6 @@ nearestPart-le d s b h =
   where
     room : (p : ℕ) → 0 < p → 2 * d + p < suc b * (2 * p)
     room p o = omega (arith, mul-le-mul h o)
-
--- past 54 places nothing is left of 53 digits
-pub nearestPart-none : (d s : ℕ) → d < 2 ^ 53 → 54 ≤ s → nearestPart d s ≡ 0
-nearestPart-none d s h k = at (2 ^ s) (pow-mono k)
-  where
-    at : (p : ℕ) → 2 ^ 54 ≤ p → (2 * d + p) / (2 * p) ≡ 0
-    at p l = div-eq-of-lt (omega arith)
-
--- a common factor of the digits and the places goes out
-same-cut : (d A P : ℕ) → 0 < A → 0 < P → (2 * (d * A) + A * P) / (2 * (A * P)) ≡ (2 * d + P) / (2 * P)
-same-cut d A P a p =
-    div-same (2 * (d * A) + A * P) (2 * (A * P)) (2 * d + P) (2 * P) (omega (arith, mul-pos a p)) (omega arith) (eq d A P)
-  where
-    eq : (d A P : ℕ) → (2 * (d * A) + A * P) * (2 * P) ≡ (2 * d + P) * (2 * (A * P))
-    eq d A P = omega arith
-
-cut : (d x s l : ℕ) → x + s ≡ l → nearestPart (d * 2 ^ x) l ≡ nearestPart d s
-cut d x s l h = rw (← h, pow-add 2 x s) (same-cut d (2 ^ x) (2 ^ s) (pow-pos x) (pow-pos s))
-
--- a float of s binary places: the nearest whole number is had by one division
-pub roundAway-of-fraction : (v : Float) (g : Bool) (d x s : ℕ) → HasValue v g (d * 2 ^ x) (2 ^ 1074) → x + s ≡ 1074
-    → roundAway v ≡ round binary64 g (nearestPart d s) 1
-roundAway-of-fraction v g d x s h e =
-    roundAway-by-value v g (d * 2 ^ x) (2 ^ 1074) (pow-pos 1074) h ∙ ap (λ n. round binary64 g n 1) (cut d x s 1074 e)
-
-pub roundAway-below-half : (v : Float) (g : Bool) (a : ℕ) → 2 * a < 2 ^ 1074 → HasValue v g a (2 ^ 1074) → roundAway v ≡ round binary64 g 0 1
-roundAway-below-half v g a h e =
-    roundAway-by-value v g a (2 ^ 1074) (pow-pos 1074) e ∙ ap (λ n. round binary64 g n 1) (none a (2 ^ 1074) h)
-  where
-    none : (a u : ℕ) → 2 * a < u → (2 * a + u) / (2 * u) ≡ 0
-    none a u h = div-eq-of-lt (omega arith)
-
--- a whole number is rounded to itself
-pub roundAway-of-whole : (v : Float) (g : Bool) (n k : ℕ) → T (fits binary64 v) → n < 2 ^ 53 → n * 2 ^ k < 2 ^ 1024 → HasValue v g (n * 2 ^ k) 1
-    → roundAway v ≡ v
-roundAway-of-whole v g n k f h l e =
-    let w = n * 2 ^ k in
-    let half : (2 * w + 1) / (2 * 1) ≡ w = omega arith in
-    roundAway-by-value v g w 1 (omega arith) e
-    ∙ ap (λ t. round binary64 g t 1) half
-    ∙ whole-unique binary64 (round binary64 g w 1) v g w (round-fits binary64 g w 1) f (whole-value g n k h l) e
 
 -- ---- the sign goes through
 neg-odd : (d q k l : ℕ) → neg (odd d false q k l) ≡ odd d true q k l

@@ -1,7 +1,12 @@
-// Rounding, the square root, and the remainder modulo 1: the patterns that go in, then those that come out.
+// Rounding and its steps, the square root, and the remainder modulo 1: the patterns that go in, then those that come out.
+use crate::records::print;
 use crate::records::print_float;
 use definitions::Position;
 use math_real::position::remainder;
+use math_round::cases::Step;
+use math_round::cases::nearest;
+use math_round::cases::special;
+use math_round::cases::tie;
 use math_round::round;
 use math_sqrt::sqrt;
 
@@ -14,6 +19,24 @@ fn read_shown() -> f64 {
 
 pub(crate) fn run_round() {
     print_float(round(read_shown()));
+}
+
+fn print_settled(name: &[u8], step: Step) {
+    match step {
+        Step::Settled(r) => {
+            print(name);
+            print_float(r);
+        }
+        Step::Open => {}
+    }
+}
+
+// each step that settles it, by name
+pub(crate) fn run_steps() {
+    let x = read_shown();
+    print_settled(b" special", special(x));
+    print_settled(b" nearest", nearest(x));
+    print_settled(b" tie", tie(x));
 }
 
 pub(crate) fn run_sqrt() {

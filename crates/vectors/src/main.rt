@@ -9,6 +9,7 @@
 //
 //   tag  call                                     arguments
 //   r    math_round::round                        float
+//   s    math_round::cases: the three steps       float
 //   q    math_sqrt::sqrt                          float
 //   m    math_real::position::remainder           three floats
 //   D    math_snf::snf                            matrix
@@ -63,6 +64,7 @@ use crate::records::print;
 fn run(tag: u8) {
     match tag {
         b'r' => floats::run_round(),
+        b's' => floats::run_steps(),
         b'q' => floats::run_sqrt(),
         b'm' => floats::run_remainder(),
         b'D' => snf::run_snf(),

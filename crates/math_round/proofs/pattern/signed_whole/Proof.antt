@@ -14,8 +14,8 @@ use lib.Ieee.Back.{round-whole}
 use lib.Ieee.Bits.{ofBits-toBits, toBits-lt, nanBits-is}
 use borrow.Author.Needs.{needs}
 use Rattle.math_round.specs.Value.{whole-number, signed-bits}
-use Rattle.math_round.proofs.signed_whole.Statement.{statement}
-use Rattle.math_round.proofs.signed_whole.Tie as tie
+use Rattle.math_round.proofs.pattern.signed_whole.Statement.{statement}
+use Rattle.math_round.proofs.pattern.signed_whole.Tie as tie
 
 -- ---- a number n up to 2 ^ 53 that came through an i64, and its sign s
 module _ (n s : ℕ) (h : n ≤ 2 ^ 53) (l : s < 2) where

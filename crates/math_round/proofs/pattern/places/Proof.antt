@@ -3,8 +3,8 @@ use Prim.Native.Nat.{ℕ, zero, suc, _+_, _*_, _-_, _/_, _%_, _<_}
 use mathlib.Core.Path.{_≡_, refl}
 use native.Mathlib.Omega.{arith}
 use borrow.Author.Needs.{needs}
-use Rattle.math_round.proofs.places.Statement.{statement}
-use Rattle.math_round.proofs.places.Tie as tie
+use Rattle.math_round.proofs.pattern.places.Statement.{statement}
+use Rattle.math_round.proofs.pattern.places.Tie as tie
 
 product : (f : ℕ) → f < 1075 → (f + 3) % 1024 * ((f + 3) / 1024) ≡ f - 1021
 product f h = at ((f + 3) / 1024) refl
