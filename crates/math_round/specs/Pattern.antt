@@ -286,7 +286,8 @@ module _ (x : Float) (f : T (fits binary64 x)) (s : Special x → ⊥) where
       let n = digitsOf (bitsOf x) * 2 ^ (fieldOf (bitsOf x) - 1075) in
       let e : unitsOf x ≡ n * 2 ^ 1074 =
       ap unitsOf (sym (own x f)) ∙ whole-pattern (bitsOf x) h below-infinity in
-      (near n (whole-within (2 ^ 1074) (unitsOf x) n (pow-pos 1074) e), sym (whole-is-its-own x n f (ordinary x s .0) e))
+      let w = whole-within (2 ^ 1074) (unitsOf x) n (pow-pos 1074) e in
+      (near n w, sym (whole-is-its-own x n f (ordinary x s .0) e))
 
   pub parted : fieldOf (bitsOf x) < 1075 → (p : Parts) → p ≡ partsOf (bitsOf x) → Parted x p
   parted h p e =

@@ -21,6 +21,7 @@ fn is_special(x: f64) -> bool
     if x != x {
         return true;
     }
+    // the pattern without the sign is ordered as magnitudes are
     let size = f64::to_bits(x) % SIGN;
     size == 0 || INFINITY <= size
 }

@@ -1,5 +1,5 @@
-// Rounding to a whole number, half away from zero, over every f64, in the order of IEEE 754: special values, nearest,
-// then the tie.
+// Rounding to a whole number, half away from zero, over every f64: IEEE 754's roundToIntegralTiesToAway, in the order
+// of its text: special values, nearest, then the tie.
 pub mod cases;
 pub mod fraction;
 mod pattern;

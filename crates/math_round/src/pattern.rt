@@ -46,8 +46,8 @@ fn places(field: u64) -> u64
     54 - t % 1024 * (t / 1024)
 }
 
-// The magnitude of a float that has binary places. Below the field 1021, where it is less than a quarter, the digits with
-// 54 places stand for it: they are less than a half, and that is all that matters.
+// The magnitude of a float that has binary places. Below the field 1021, where it is less than a quarter, the digits
+// with 54 places stand for it: they are less than a half, and that is all that matters.
 pub(crate) fn split(bits: u64) -> Parts
     requires { ⌜ fieldOf bits < 1075 ⌝ }
     ensures { λ r. ⌜ r ≡ partsOf bits ⌝ }

@@ -1,4 +1,5 @@
-// Rounding and its steps, the square root, and the remainder modulo 1: the patterns that go in, then those that come out.
+// Rounding and its steps, the square root, and the remainder modulo 1: the patterns that go in, then those that come
+// out.
 use crate::records::print;
 use crate::records::print_float;
 use definitions::Position;
