@@ -43,11 +43,6 @@ pub record Tie (x : Float) : Type 0 where
   pub n : ℕ
   pub half-way : HalfWay (2 ^ 1074) (unitsOf x) n
 
--- b says whether A is so
-abbrev pub Decides : Type 0 → Bool → Type 0
-Decides A true = A
-Decides A false = A → ⊥
-
 -- what the step of the case A says of x: settled where A is so, with what x is rounded to; where it is not, open
 abbrev pub StepOf : Type 0 → Float → Step → Type 0
 StepOf A x (Settled r) = A × (r ≡ roundAway x)

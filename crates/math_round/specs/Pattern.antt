@@ -2,7 +2,7 @@
 use Prim.Native.Nat.{ℕ, zero, suc, _+_, _*_, _-_, _/_, _%_, _^_, _≤_, _<_}
 use mathlib.Core.Path.{_≡_, refl, sym, ap, _∙_, subst}
 use mathlib.Core.Bool.{Bool, true, false, not, cond}
-use mathlib.Core.Logic.{inl, inr}
+use mathlib.Core.Logic.{_⊎_, inl, inr}
 use native.Mathlib.Omega.{arith}
 use native.Mathlib.Nat.{mul-div-cancel, mul-pos, mul-assoc, lt-of-lt-of-le, lt-of-le-of-lt, lt-of-not-le}
 use native.Mathlib.Nat.{div-le-self, mod-le}
@@ -15,10 +15,13 @@ use lib.Ieee.Bits.{ofBits-toBits, toBits-lt}
 use lib.Ieee.Fits.{down-pos}
 use lib.Ieee.Exact.{HasValue, odd-sign}
 use Rattle.definitions.specs.Real.{unitsOf, isFinite, negative, roundAway}
-use Rattle.math_round.specs.Cases.{Special, Within, HalfWay, Nearest, Tie, ordinary}
+use Rattle.math_round.specs.Cases as Cases
+use Rattle.math_round.specs.Cases.{Within, HalfWay, Nearest, Tie, ordinary, compared}
 use Rattle.math_round.specs.Cases.{rest-below, rest-above, rest-half, whole-within}
 use Rattle.math_round.specs.Rounded.{whole-is-its-own, nearest-is-rounded, tie-is-rounded}
 use Rattle.math_round.specs.declared.pattern.Parts.{Parts}
+use Rattle.math_round.specs.declared.pattern.Magnitude.{Magnitude}
+use Rattle.math_round.specs.declared.pattern.Magnitude.the-variants.{Special, Whole, Split}
 
 abbrev pub signOf : ℕ → ℕ
 signOf b = b / 2 ^ 63
@@ -35,7 +38,8 @@ abbrev pub oneOf : ℕ → ℕ
 oneOf b = 2 ^ (54 - (fieldOf b - 1021))
 
 abbrev pub partsOf : ℕ → Parts
-partsOf b = record { whole = digitsOf b / oneOf b; rest = digitsOf b % oneOf b; one = oneOf b }
+partsOf b =
+    record { sign = signOf b; whole = digitsOf b / oneOf b; rest = digitsOf b % oneOf b; one = oneOf b }
 
 -- ---- the magnitude
 
@@ -74,7 +78,7 @@ finite-pattern b h = measured _ (leb (2 ^ 63) b) _ (fields-value (leb (2 ^ 63) b
 
 -- ---- special values
 
-zero-pattern : (b : ℕ) → b % 2 ^ 63 ≡ 0 → Special (ofBits binary64 b)
+zero-pattern : (b : ℕ) → b % 2 ^ 63 ≡ 0 → Cases.Special (ofBits binary64 b)
 unfolding unitsAt
 zero-pattern b h =
     inr (finite-pattern b (omega arith) .units ∙ at (fieldOf b) (b % 2 ^ 52) (omega arith) (omega arith))
@@ -94,7 +98,7 @@ infinite-fields s (suc x) t e =
     none true = refl
     none false = refl
 
-infinite-pattern : (b : ℕ) → 0x7FF0000000000000 ≤ b % 2 ^ 63 → Special (ofBits binary64 b)
+infinite-pattern : (b : ℕ) → 0x7FF0000000000000 ≤ b % 2 ^ 63 → Cases.Special (ofBits binary64 b)
 unfolding ofBits
 infinite-pattern b h = inl (infinite-fields (leb (2 ^ 63) b) (fieldOf b) (b % 2 ^ 52) (omega arith))
 
@@ -156,7 +160,8 @@ halved-far b x e h l =
 halved-near : (b X : ℕ) → fieldOf b < 1021 → 2 * X < 2 ^ 1074 → Halved X (partsOf b)
 halved-near b X h l =
     let D = digitsOf b in
-    subst (λ (p : ℕ). Halved X (record { whole = D / 2 ^ p; rest = D % 2 ^ p; one = 2 ^ p })) (sym places)
+    subst (λ (p : ℕ). Halved X (record { sign = signOf b; whole = D / 2 ^ p; rest = D % 2 ^ p; one = 2 ^ p }))
+    (sym places)
     (record {
       low = λ k. subst (Within (2 ^ 1074) X) (sym none) (beside (2 ^ 1074) l);
       high = λ k. absurd (not-high k);
@@ -213,47 +218,46 @@ sign-pattern b h = by (decLe (2 ^ 63) b)
 abbrev pub bitsOf : Float → ℕ
 bitsOf x = toBits binary64 x
 
--- what `signed_whole` makes of n and the sign of a pattern
+-- what `signed_whole` makes of n and a sign
 abbrev pub signed : ℕ → ℕ → Float
-signed b n = round binary64 (eqb (signOf b) 1) n 1
+signed g n = round binary64 (eqb g 1) n 1
 
 module _ (x : Float) (f : T (fits binary64 x)) where
   own : ofBits binary64 (bitsOf x) ≡ x
   own = ofBits-toBits binary64 x f
 
-  pub zero-is-special : bitsOf x % 2 ^ 63 ≡ 0 → Special x
-  zero-is-special h = subst Special own (zero-pattern (bitsOf x) h)
+  pub zero-is-special : bitsOf x % 2 ^ 63 ≡ 0 → Cases.Special x
+  zero-is-special h = subst Cases.Special own (zero-pattern (bitsOf x) h)
 
-  pub infinite-is-special : 0x7FF0000000000000 ≤ bitsOf x % 2 ^ 63 → Special x
-  infinite-is-special h = subst Special own (infinite-pattern (bitsOf x) h)
+  pub infinite-is-special : 0x7FF0000000000000 ≤ bitsOf x % 2 ^ 63 → Cases.Special x
+  infinite-is-special h = subst Cases.Special own (infinite-pattern (bitsOf x) h)
 
-  pub other-is-not : 0 < bitsOf x % 2 ^ 63 → bitsOf x % 2 ^ 63 < 0x7FF0000000000000 → Special x → ⊥
-  other-is-not o h s = no (subst Special (sym own) s)
+  pub other-is-not : 0 < bitsOf x % 2 ^ 63 → bitsOf x % 2 ^ 63 < 0x7FF0000000000000 → Cases.Special x → ⊥
+  other-is-not o h s = no (subst Cases.Special (sym own) s)
     where
       no-units : (X : ℕ) → 0 < X → X ≡ 0 → ⊥
       no-units X o e = omega arith
 
-      no : Special (ofBits binary64 (bitsOf x)) → ⊥
+      no : Cases.Special (ofBits binary64 (bitsOf x)) → ⊥
       no (inl e) = subst T e (finite-pattern (bitsOf x) (omega arith) .finite)
       no (inr e) = no-units (unitsOf (ofBits binary64 (bitsOf x))) (other-pattern (bitsOf x) o h) e
 
--- what is not special is a number
-pub number : (x : Float) → (Special x → ⊥) → T (not (isNan x))
-unfolding isNan
-number x s = at x (ordinary x s .0)
-  where
-    at : (x : Float) → T (isFinite x) → T (not (isNan x))
-    at nan h = absurd h
-    at (inf s) h = tt
-    at (fin s m e) h = tt
-
 -- what the parts of a magnitude say of x, and what it is rounded to
 pub record Parted (x : Float) (p : Parts) : Type 0 where
-  pub low : 2 * p .rest < p .one → Nearest x × (signed (bitsOf x) (p .whole) ≡ roundAway x)
-  pub high : p .one < 2 * p .rest → Nearest x × (signed (bitsOf x) (suc (p .whole)) ≡ roundAway x)
-  pub half : 2 * p .rest ≡ p .one → Tie x × (signed (bitsOf x) (suc (p .whole)) ≡ roundAway x)
+  pub low : 2 * p .rest < p .one → Nearest x × (signed (p .sign) (p .whole) ≡ roundAway x)
+  pub high : p .one < 2 * p .rest → Nearest x × (signed (p .sign) (suc (p .whole)) ≡ roundAway x)
+  pub half : 2 * p .rest ≡ p .one → Tie x × (signed (p .sign) (suc (p .whole)) ≡ roundAway x)
+  pub few-sign : p .sign < 2
+  pub few-whole : p .whole < 2 ^ 53
+  pub few-rest : p .rest < 2 ^ 53
 
-module _ (x : Float) (f : T (fits binary64 x)) (s : Special x → ⊥) where
+-- x read as a magnitude
+abbrev pub Measures : Float → Magnitude → Type 0
+Measures x Special = Cases.Special x
+Measures x Whole = Nearest x × (x ≡ roundAway x)
+Measures x (Split p) = Parted x p
+
+module _ (x : Float) (f : T (fits binary64 x)) (s : Cases.Special x → ⊥) where
   below-infinity : fieldOf (bitsOf x) < 2047
   below-infinity = by (decLe 0x7FF0000000000000 (bitsOf x % 2 ^ 63))
     where
@@ -270,13 +274,13 @@ module _ (x : Float) (f : T (fits binary64 x)) (s : Special x → ⊥) where
   near : (n : ℕ) → Within (2 ^ 1074) (unitsOf x) n → Nearest x
   near n h = record { finite = ordinary x s .0; not-zero = ordinary x s .1; n = n; near = h }
 
-  nearest-signed : (n : ℕ) → Within (2 ^ 1074) (unitsOf x) n → Nearest x × (signed (bitsOf x) n ≡ roundAway x)
+  nearest-signed : (n : ℕ) → Within (2 ^ 1074) (unitsOf x) n → Nearest x × (signed (signOf (bitsOf x)) n ≡ roundAway x)
   unfolding near
   nearest-signed n h =
       (near n h, ap (λ (g : Bool). round binary64 g n 1) sign-is ∙ sym (nearest-is-rounded x f (near n h)))
 
   tie-signed :
-      (n : ℕ) → HalfWay (2 ^ 1074) (unitsOf x) n → Tie x × (signed (bitsOf x) (suc n) ≡ roundAway x)
+      (n : ℕ) → HalfWay (2 ^ 1074) (unitsOf x) n → Tie x × (signed (signOf (bitsOf x)) (suc n) ≡ roundAway x)
   tie-signed n h =
       let t : Tie x = record { finite = ordinary x s .0; n = n; half-way = h } in
       (t, ap (λ (g : Bool). round binary64 g (suc n) 1) sign-is ∙ sym (tie-is-rounded x f t))
@@ -289,26 +293,34 @@ module _ (x : Float) (f : T (fits binary64 x)) (s : Special x → ⊥) where
       let w = whole-within (2 ^ 1074) (unitsOf x) n (pow-pos 1074) e in
       (near n w, sym (whole-is-its-own x n f (ordinary x s .0) e))
 
-  pub parted : fieldOf (bitsOf x) < 1075 → (p : Parts) → p ≡ partsOf (bitsOf x) → Parted x p
-  parted h p e =
+  parted-own : fieldOf (bitsOf x) < 1075 → Parted x (partsOf (bitsOf x))
+  parted-own h =
+      let b = bitsOf x in
+      let k : Halved (unitsOf x) (partsOf b) =
+      subst (λ (y : Float). Halved (unitsOf y) (partsOf b)) (own x f) (halved-pattern b h) in
       record {
-        low = λ k. nearest-signed (p .whole) (halves .low k);
-        high = λ k. nearest-signed (suc (p .whole)) (halves .high k);
-        half = λ k. tie-signed (p .whole) (halves .half k);
+        low = λ l. nearest-signed (partsOf b .whole) (k .low l);
+        high = λ l. nearest-signed (suc (partsOf b .whole)) (k .high l);
+        half = λ l. tie-signed (partsOf b .whole) (k .half l);
+        few-sign = omega (arith, toBits-lt binary64 x f);
+        few-whole = lt-of-le-of-lt (div-le-self (digitsOf b) (oneOf b)) few;
+        few-rest = lt-of-le-of-lt (mod-le (digitsOf b) (oneOf b)) few;
       }
     where
-      halves : Halved (unitsOf x) p
-      halves =
-          subst (Halved (unitsOf x)) (sym e)
-          (subst (λ (y : Float). Halved (unitsOf y) (partsOf (bitsOf x))) (own x f) (halved-pattern (bitsOf x) h))
+      few : digitsOf (bitsOf x) < 2 ^ 53
+      few = omega arith
 
--- no part has more digits than the float
-module _ (b : ℕ) (p : Parts) (e : p ≡ partsOf b) where
-  few : digitsOf b < 2 ^ 53
-  few = omega arith
+  pub parted : fieldOf (bitsOf x) < 1075 → (p : Parts) → p ≡ partsOf (bitsOf x) → Parted x p
+  parted h p e = subst (Parted x) (sym e) (parted-own h)
 
-  pub few-whole : p .whole < 2 ^ 53
-  few-whole = rw e (lt-of-le-of-lt (div-le-self (digitsOf b) (oneOf b)) few)
+-- a reading that is known to be of parts
+pub by-parts : (x : Float) (t : Magnitude) (p : Parts) → Measures x t → t ≡ Split p → Parted x p
+by-parts x t p h e = subst (Measures x) e h
 
-  pub few-rest : p .rest < 2 ^ 53
-  few-rest = rw e (lt-of-le-of-lt (mod-le (digitsOf b) (oneOf b)) few)
+pub nearest-or-half : (x : Float) (p : Parts) → Parted x p → Nearest x ⊎ (2 * p .rest ≡ p .one)
+nearest-or-half x p h = by (compared (2 * p .rest) (p .one))
+  where
+    by : (2 * p .rest < p .one) ⊎ ((p .one < 2 * p .rest) ⊎ (2 * p .rest ≡ p .one)) → Nearest x ⊎ (2 * p .rest ≡ p .one)
+    by (inl k) = inl (h .low k .0)
+    by (inr (inl k)) = inl (h .high k .0)
+    by (inr (inr k)) = inr k

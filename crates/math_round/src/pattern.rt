@@ -4,33 +4,35 @@ ghost use Prim.Native.Nat.{_-_, _^_, _≤_, _<_};
 ghost use lib.Dec.{eqb};
 ghost use lib.Ieee as Ieee;
 ghost use lib.Ieee.{binary64};
-ghost use Rattle.math_round.specs.Pattern.{signOf, fieldOf, partsOf};
+ghost use Rattle.math_round.specs.Pattern.{fieldOf, partsOf, Measures};
 
 // the bit of the sign
-pub(crate) const SIGN: u64 = 0x8000000000000000;
+const SIGN: u64 = 0x8000000000000000;
 
 // the last bit of the exponent's field; of a normal number also its first digit, which is not stored
 const FIRST: u64 = 0x0010000000000000;
 
-pub(crate) const INFINITY: u64 = 0x7FF0000000000000;
+const INFINITY: u64 = 0x7FF0000000000000;
 
 // from this field on a float is a whole number
-pub(crate) const WHOLE: u64 = 1075;
+const WHOLE: u64 = 1075;
 
-// a magnitude: whole + rest / one
+// a sign, 1 for minus, and a magnitude: whole + rest / one
 pub(crate) struct Parts {
+    pub(crate) sign: u64,
     pub(crate) whole: u64,
     pub(crate) rest: u64,
     pub(crate) one: u64,
 }
 
-pub(crate) fn sign(bits: u64) -> u64
-    ensures { λ r. ⌜ r ≡ signOf bits ⌝ }
-{
-    bits / SIGN
+// A float as rounding reads it: a zero or not finite; a whole number; or by its parts.
+pub(crate) enum Magnitude {
+    Special,
+    Whole,
+    Split(Parts),
 }
 
-pub(crate) fn field(bits: u64) -> u64
+fn field(bits: u64) -> u64
     ensures { λ r. ⌜ r ≡ fieldOf bits ⌝ }
 {
     bits % SIGN / FIRST
@@ -48,7 +50,7 @@ fn places(field: u64) -> u64
 
 // The magnitude of a float that has binary places. Below the field 1021, where it is less than a quarter, the digits
 // with 54 places stand for it: they are less than a half, and that is all that matters.
-pub(crate) fn split(bits: u64) -> Parts
+fn split(bits: u64) -> Parts
     requires { ⌜ fieldOf bits < 1075 ⌝ }
     ensures { λ r. ⌜ r ≡ partsOf bits ⌝ }
 {
@@ -56,10 +58,32 @@ pub(crate) fn split(bits: u64) -> Parts
     let p = places(field(bits));
     let one = 1 << p;
     Parts {
+        sign: bits / SIGN,
         whole: digits >> p,
         rest: digits % one,
         one: one,
     }
+}
+
+pub(crate) fn measured(x: f64) -> Magnitude
+    ensures { λ r. ⌜ Measures x r ⌝ }
+{
+    if x != x {
+        return Magnitude::Special;
+    }
+    let bits = f64::to_bits(x);
+    // the pattern without the sign is ordered as magnitudes are
+    let size = bits % SIGN;
+    if size == 0 {
+        return Magnitude::Special;
+    }
+    if INFINITY <= size {
+        return Magnitude::Special;
+    }
+    if WHOLE <= field(bits) {
+        return Magnitude::Whole;
+    }
+    Magnitude::Split(split(bits))
 }
 
 // A whole number as a float, with a sign: also -0. The sign's bit is added, as a processor guesses wrong at every
