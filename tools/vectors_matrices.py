@@ -1,8 +1,8 @@
 """Matrices of whole numbers, nine row by row: the diagonalisation, points, a rotation in another basis, centrings.
 
-Expected: D, L, R and the points are the Rust's (`ORACLE diagonals`, which has refusal 8); T⁻¹RT is by exact fractions;
-the centrings are moyo's `Centering::linear`, copied here. Refusals 3, 7 and 10 are by document 01's words: the Rust
-has none of them.
+Expected: D, L, R and the points are the Rust's (`ORACLE diagonals`, which has refusal 8); T⁻¹RT is by exact fractions,
+also where one basis follows another; the centrings are moyo's `Centering::linear`, copied here. Refusals 3, 7 and 10 are
+by document 01's words: the Rust has none of them.
 """
 import random
 import subprocess
@@ -217,9 +217,67 @@ def rotation_cases():
         yield from (rotation_case(t, r) for t, r in ((outside(rng, 3, entry), swap), (swap, outside(rng, 3, entry))))
 
 
+# T, U and R of request M-111: the worked change, and T and U exchanged; a rotation between that is out of range, and
+# one that just is not; an inverse, and a product TU, out of range; determinants -1
+FOURFOLD = [0, -1, 0, 1, 0, 0, 0, 0, 1]
+SUCCESSIVE = [
+    ([1, 1, 0, 0, 1, 0, 0, 0, 1], [1, 0, 0, 1, 1, 0, 0, 0, 1], FOURFOLD),
+    ([1, 0, 0, 1, 1, 0, 0, 0, 1], [1, 1, 0, 0, 1, 0, 0, 0, 1], FOURFOLD),
+    ([1, 6, 0, 0, 1, 0, 0, 0, 1], [1, -6, 0, 0, 1, 0, 0, 0, 1], FOURFOLD),
+    ([1, 5, 0, 0, 1, 0, 0, 0, 1], [1, -5, 0, 0, 1, 0, 0, 0, 1], FOURFOLD),
+    ([1, 31, 0, 0, 1, 31, 0, 0, 1], list(IDENTITY), list(IDENTITY)),
+    ([1, 31, 0, 0, 1, 0, 0, 0, 1], [1, 1, 0, 0, 1, 0, 0, 0, 1], list(IDENTITY)),
+    ([0, 1, 0, 1, 0, 0, 0, 0, 1], [1, 1, 0, 0, 1, 0, 0, 0, -1], FOURFOLD),
+]
+
+
+def transformed(t, r):
+    return [int(x) for x in product(product(inverse(t), r), t)]
+
+
+def in_bytes(m):
+    return max(map(abs, m)) <= 127
+
+
+def two_bases(t, u, r):
+    """By T and then by U, and by TU; by T and then by T⁻¹."""
+    between, both, back = transformed(t, r), product(t, u), [int(x) for x in inverse(t)]
+    if in_range(between) and in_range(both):
+        assert transformed(u, between) == transformed(both, r)
+    if in_range(between) and in_range(back):
+        assert transformed(back, between) == r
+    pairs = [(t, r), (u, between), (both, r), (back, between)]
+    yield from (rotation_case(m, x) for m, x in pairs if in_bytes(m) and in_bytes(x))
+
+
+def two_rotations(t, r, s):
+    """By T: R, S and RS."""
+    assert transformed(t, product(r, s)) == product(transformed(t, r), transformed(t, s))
+    yield from (rotation_case(t, x) for x in (r, s, product(r, s)))
+
+
+def successive(rng):
+    """T, U, R and S at random, with all in range that request M-111 has in range."""
+    one = ((1, 1, 1),)
+    while True:
+        t, u, r, s = skewed(rng, one), skewed(rng, one), any_matrix(rng, rng.choice((1, 2, 5))), any_matrix(rng, 2)
+        if in_range(product(t, u)) and in_range(transformed(t, r)) and in_range(product(r, s)):
+            return t, u, r, s
+
+
+def successive_cases():
+    rng = random.Random(111)
+    for t, u, r in SUCCESSIVE:
+        yield from two_bases(t, u, r)
+    for t, u, r, s in (successive(rng) for _ in range(200)):
+        yield from two_bases(t, u, r)
+        yield from two_rotations(t, r, s)
+
+
 def cases(oracle):
     yield from snf_cases(oracle)
     yield from points_cases(oracle)
     yield from factors_cases(oracle)
     yield from rotation_cases()
+    yield from successive_cases()
     yield from (case("C", [letter.encode()], [letter] + m) for letter, m in CENTRINGS.items())

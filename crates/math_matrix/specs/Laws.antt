@@ -13,6 +13,7 @@ use Rattle.definitions.specs.Matrix.{Matrix, at, mat, item, three, identity, mu
 use Rattle.math_matrix.specs.Solve.{Expr, con, _⊖_, _⊗_, solve, one-left, one-right}
 use Rattle.math_matrix.specs.Ring.{*ℤ-assoc}
 use Rattle.math_matrix.specs.Exprs.{three-eq, solveV, solveM, entries, entriesE, items, itemsE, mulE, applyE, cofactorE, detE}
+use Rattle.math_matrix.specs.Bounds.{abs-mul}
 
 abbrev A : ℕ → ℕ → Expr
 A = entriesE 0
@@ -106,6 +107,33 @@ det-inverse m e =
     ∙ *ℤ-assoc (det m) (det m) (det (inverse m))
     ∙ ap (λ z. det m *ℤ z) (sym (det-mul m (inverse m)) ∙ ap det (mul-inverse m e))
     ∙ one-right (det m)
+
+-- a product of two such matrices is one
+pub unit-mul : (a b : Matrix) → natAbs (det a) ≡ 1 → natAbs (det b) ≡ 1 → natAbs (det (mulM a b)) ≡ 1
+unit-mul a b p q = ap natAbs (det-mul a b) ∙ abs-mul (det a) (det b) ∙ (λ i. p i * q i)
+
+-- no other matrix is its inverse
+pub inverse-unique : (m x : Matrix) → natAbs (det m) ≡ 1 → Three x → mulM m x ≡ identity → x ≡ inverse m
+inverse-unique m x e h p =
+    sym (identity-mul x h)
+    ∙ ap (λ (y : Matrix). mulM y x) (sym (inverse-mul m e))
+    ∙ mul-assoc (inverse m) m x
+    ∙ ap (mulM (inverse m)) p
+    ∙ mul-identity (inverse m) refl
+
+-- (AB)⁻¹ = B⁻¹A⁻¹
+pub inverse-product :
+    (a b : Matrix) → natAbs (det a) ≡ 1 → natAbs (det b) ≡ 1 → inverse (mulM a b) ≡ mulM (inverse b) (inverse a)
+inverse-product a b p q = sym (inverse-unique (mulM a b) (mulM (inverse b) (inverse a)) (unit-mul a b p q) refl back)
+  where
+    inner : mulM b (mulM (inverse b) (inverse a)) ≡ inverse a
+    inner =
+        sym (mul-assoc b (inverse b) (inverse a))
+        ∙ ap (λ (x : Matrix). mulM x (inverse a)) (mul-inverse b q)
+        ∙ identity-mul (inverse a) refl
+
+    back : mulM (mulM a b) (mulM (inverse b) (inverse a)) ≡ identity
+    back = mul-assoc a b (mulM (inverse b) (inverse a)) ∙ ap (mulM a) inner ∙ mul-inverse a p
 
 of-length : {A : Type 0} (l : List A) (d : A) → length l ≡ 3 → l ≡ three (λ i. getD l i d)
 of-length [] d e = absurd (omega arith)

@@ -1,11 +1,10 @@
 -- Every step keeps L M R = D, and keeps the determinants of L and R at 1 or -1.
-use Prim.Native.Nat.{ℕ, _*_}
+use Prim.Native.Nat.{ℕ}
 use mathlib.Core.Path.{_≡_, refl, sym, ap, _∙_}
 use lib.IntN.{natAbs}
 use Rattle.definitions.specs.Matrix.{Matrix, identity, mulM, det}
 use Rattle.definitions.specs.Snf.{State, start}
-use Rattle.math_matrix.specs.Laws.{Three, mul-assoc, det-mul, identity-mul, mul-identity}
-use Rattle.math_matrix.specs.Bounds.{abs-mul}
+use Rattle.math_matrix.specs.Laws.{Three, mul-assoc, identity-mul, mul-identity, unit-mul}
 use Rattle.math_snf_laws.specs.Steps.{RowOp, ColumnOp, swap-rows, swap-columns, negate-column, less-row, less-column}
 use Rattle.math_snf_laws.specs.Stable.{onRows, onColumns, Stable}
 
@@ -17,9 +16,6 @@ pub record Kept (m : Matrix) (t : State) : Type 0 where
 pub kept-start : (m : Matrix) → Three m → Kept m (start m)
 kept-start m h = record { lmr = ap (λ x. mulM x identity) (identity-mul m h) ∙ mul-identity m h; left = refl; right = refl }
 
-units : (a b : Matrix) → natAbs (det a) ≡ 1 → natAbs (det b) ≡ 1 → natAbs (det (mulM a b)) ≡ 1
-units a b f g = ap natAbs (det-mul a b) ∙ abs-mul (det a) (det b) ∙ ap (λ (n : ℕ). n * natAbs (det b)) f ∙ ap (λ (n : ℕ). 1 * n) g
-
 by-rows : {m : Matrix} {op : Matrix → Matrix} → RowOp op → (t : State) → Kept m t → Kept m (onRows op t)
 by-rows {m} {op} o t h =
     record {
@@ -29,7 +25,7 @@ by-rows {m} {op} o t h =
           ∙ mul-assoc (o .factor) (mulM (t .l) m) (t .r)
           ∙ ap (mulM (o .factor)) (h .lmr)
           ∙ sym (o .is (t .d));
-      left = ap (λ x. natAbs (det x)) (o .is (t .l)) ∙ units (o .factor) (t .l) (o .unit) (h .left);
+      left = ap (λ x. natAbs (det x)) (o .is (t .l)) ∙ unit-mul (o .factor) (t .l) (o .unit) (h .left);
       right = h .right;
     }
 
@@ -42,7 +38,7 @@ by-columns {m} {op} o t h =
           ∙ ap (λ x. mulM x (o .factor)) (h .lmr)
           ∙ sym (o .is (t .d));
       left = h .left;
-      right = ap (λ x. natAbs (det x)) (o .is (t .r)) ∙ units (t .r) (o .factor) (h .right) (o .unit);
+      right = ap (λ x. natAbs (det x)) (o .is (t .r)) ∙ unit-mul (t .r) (o .factor) (h .right) (o .unit);
     }
 
 pub kept : (m : Matrix) (s : ℕ) → Stable s (Kept m)
