@@ -1,6 +1,6 @@
 -- A rotation in one basis after another, by the promise of the call `transform_rotation`: moyo's `transform_operation`
--- of a product, and of an inverse, of `UnimodularTransformation`. "In range" is refusal 3's -31..31, and all is in whole
--- numbers.
+-- of a product, and of an inverse, of `UnimodularTransformation`. "In range" is refusal 3's -31..31, and all is in
+-- whole numbers.
 use mathlib.Core.Path.{_≡_, refl, sym, ap, subst, _∙_}
 use mathlib.Core.Bool.{true, not}
 use mathlib.Core.List.{[], _∷_}
