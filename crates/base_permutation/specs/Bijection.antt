@@ -201,6 +201,12 @@ module _ (n : ℕ) (p : List ℕ) (b : Bijection n p) where
       let r = count-place (eqb i) 0 p c in
       (r .0, omega (arith, r .1, b .size), sym (eqb-true i (image p (r .0)) (r .2)))
 
+  -- and is one once
+  pub each-once : (i : ℕ) → i < n → count (eqb i) p ≡ 1
+  each-once i k =
+      let r = preimage i k in
+      subst (λ (x : ℕ). count (eqb x) p ≡ 1) (r .2) (counted n p (permutation n p b) (r .0) (r .1))
+
   -- the inverse image of i is the place where i stands
   pub inverse-at : (i j : ℕ) → j < n → image p j ≡ i → inverseImage p i ≡ j
   unfolding inverseImage

@@ -28,6 +28,7 @@ use Rattle.definitions.specs.Lent.{positionFrom, cellsOf, zeroCells, zer
 use Rattle.definitions.specs.Lent.{cellsWithin, operationsFrom}
 use Rattle.definitions.specs.Lent.{unlike, permutationsOf, badPermutationCounts, badImages}
 use Rattle.definitions.specs.Permutation.{image, isPermutation, inverseImage, after}
+use Rattle.definitions.specs.Shuffle.{shuffled}
 use Rattle.definitions.specs.Transformation.{transformRotation, rotationAbsent, alignedTo, transformPosition}
 use Rattle.definitions.specs.Symmetrization.{symmetrized, conventionalBasis, latticeFails, newOf, primitiveOf}
 use Rattle.definitions.specs.Symmetrization.{listedOf}
@@ -117,6 +118,14 @@ productConditions p q room =
 
 abbrev pub ProductPromise : List ℕ → List ℕ → List ℕ → List ℕ → Verdict → Type 0
 ProductPromise p q entry exit v = Filled 0 (productConditions p q (length entry)) (after p q) entry exit v
+
+-- Request M-101's permutation of n sites: 2 ("A larger n is refused with 2"), 10; as of the identity, "Starting from"
+-- which it is made.
+abbrev pub shuffleConditions : ℕ → ℕ → List Condition
+shuffleConditions = identityConditions
+
+abbrev pub ShufflePromise : ℕ → ℕ → List ℕ → List ℕ → Verdict → Type 0
+ShufflePromise seed n entry exit v = Filled 0 (shuffleConditions n (length entry)) (shuffled n seed) entry exit v
 
 -- ---- base/transformation.rs
 

@@ -7,6 +7,7 @@ pub mod Lent
 pub mod Matrix
 pub mod Real
 pub mod Permutation
+pub mod Shuffle
 pub mod Transformation
 pub mod Symmetrization
 pub mod Centering

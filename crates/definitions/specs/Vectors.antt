@@ -19,6 +19,7 @@ use Rattle.definitions.specs.Limits.{most-sites, most-listed}
 use Rattle.definitions.specs.Matrix.{Matrix, mulM, det, inverse, identity}
 use Rattle.definitions.specs.Real.{zeroF, origin, roundAway}
 use Rattle.definitions.specs.Permutation.{isPermutation, inverseImage, after}
+use Rattle.definitions.specs.Shuffle.{step, swapDown, shuffled}
 use Rattle.definitions.specs.Symmetrization.{offRound}
 use Rattle.definitions.specs.Centering.{linear}
 use Rattle.definitions.specs.Snf.{State, Place, start, pivot, places, lesser, least, pass, moved, signed}
@@ -63,6 +64,16 @@ of-permutations :
     ≡ true ∷ false ∷ false ∷ false ∷ [])
 unfolding inverseImage isPermutation all count first upFrom
 of-permutations = (refl, refl, refl)
+
+-- those of request M-101, by hand and by a script of its words (tools/vectors_permutations.py): states, of which the
+-- last has a product and a sum over 32 bits; lists
+of-shuffles :
+    (map step (0 ∷ 1 ∷ 42 ∷ 0xFFFFFFFF ∷ []) ≡ 0x3C6EF35F ∷ 0x3C88596C ∷ 0x4099B181 ∷ 0x3C558D52 ∷ [])
+    × (map (λ n. shuffled n 0) (0 ∷ 1 ∷ 2 ∷ []) ≡ [] ∷ (0 ∷ []) ∷ (1 ∷ 0 ∷ []) ∷ [])
+    × (shuffled 5 42 ≡ 0 ∷ 1 ∷ 4 ∷ 3 ∷ 2 ∷ [])
+    × (shuffled 8 1 ≡ 6 ∷ 2 ∷ 3 ∷ 5 ∷ 7 ∷ 4 ∷ 1 ∷ 0 ∷ [])
+unfolding step swapDown shuffled upFrom
+of-shuffles = (refl, refl, refl, refl)
 
 -- ---- rounding: 0.75 is 0.25 below its whole number
 

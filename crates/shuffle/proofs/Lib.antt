@@ -1,0 +1,2 @@
+-- Laws that the proof of the call cites.
+pub mod Started
