@@ -17,9 +17,11 @@ import vectors_coordinates
 import vectors_floats
 import vectors_matrices
 import vectors_permutations
+import vectors_shuffle
 import vectors_symmetrization
 
-FAMILIES = [vectors_floats, vectors_matrices, vectors_permutations, vectors_symmetrization, site_vectors, job_vectors]
+FAMILIES = [vectors_floats, vectors_matrices, vectors_permutations, vectors_shuffle, vectors_symmetrization,
+            site_vectors, job_vectors]
 TABLED = [vectors_coordinates, match_vectors]
 
 

@@ -119,8 +119,8 @@ productConditions p q room =
 abbrev pub ProductPromise : List ℕ → List ℕ → List ℕ → List ℕ → Verdict → Type 0
 ProductPromise p q entry exit v = Filled 0 (productConditions p q (length entry)) (after p q) entry exit v
 
--- Request M-101's permutation of n sites: 2 ("A larger n is refused with 2"), 10; as of the identity, "Starting from"
--- which it is made.
+-- the permutation of n sites that request M-101's rules make of a seed: 2, 10. It starts from the identity, and what
+-- concerns the two is the same: "A larger n is refused with 2".
 abbrev pub shuffleConditions : ℕ → ℕ → List Condition
 shuffleConditions = identityConditions
 

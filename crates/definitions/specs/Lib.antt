@@ -1,4 +1,4 @@
--- The definitions of document 01, in its order.
+-- The definitions of document 01, in its order; Shuffle has those of request M-101 of document 02.
 pub mod Lists
 pub mod Refusal
 pub mod Limits

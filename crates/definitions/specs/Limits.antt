@@ -15,7 +15,7 @@ use Rattle.definitions.specs.Real.{RealMatrix, zeroF, realOf, isFinite}
 abbrev pub most-bytes : ℕ
 most-bytes = 65536
 
--- "primitive sites over 256"
+-- "primitive sites over 256"; of a permutation made from a seed "every n up to 256"
 abbrev pub most-sites : ℕ
 most-sites = 256
 

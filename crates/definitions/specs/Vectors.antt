@@ -65,12 +65,12 @@ of-permutations :
 unfolding inverseImage isPermutation all count first upFrom
 of-permutations = (refl, refl, refl)
 
--- those of request M-101, by hand and by a script of its words (tools/vectors_permutations.py): states, of which the
--- last has a product and a sum over 32 bits; lists
+-- request M-101's own figures: states, of which the last has a product over 32 bits; lists, of which 2 from 2 tells the
+-- stepped state from the one before
 of-shuffles :
     (map step (0 ∷ 1 ∷ 42 ∷ 0xFFFFFFFF ∷ []) ≡ 0x3C6EF35F ∷ 0x3C88596C ∷ 0x4099B181 ∷ 0x3C558D52 ∷ [])
-    × (map (λ n. shuffled n 0) (0 ∷ 1 ∷ 2 ∷ []) ≡ [] ∷ (0 ∷ []) ∷ (1 ∷ 0 ∷ []) ∷ [])
-    × (shuffled 5 42 ≡ 0 ∷ 1 ∷ 4 ∷ 3 ∷ 2 ∷ [])
+    × (map (λ n. shuffled n 0) (0 ∷ 1 ∷ []) ≡ [] ∷ (0 ∷ []) ∷ [])
+    × (map (shuffled 2) (1 ∷ 2 ∷ []) ≡ (1 ∷ 0 ∷ []) ∷ (0 ∷ 1 ∷ []) ∷ [])
     × (shuffled 8 1 ≡ 6 ∷ 2 ∷ 3 ∷ 5 ∷ 7 ∷ 4 ∷ 1 ∷ 0 ∷ [])
 unfolding step swapDown shuffled upFrom
 of-shuffles = (refl, refl, refl, refl)

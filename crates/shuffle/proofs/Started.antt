@@ -1,6 +1,6 @@
 -- What the call has of `identity`'s promise: where that accepts, 0 to n - 1 stand in front, and zeros behind them stay;
 -- where it refuses, all is zero.
-use Prim.Native.Nat.{ℕ, _+_, _-_, _≤_}
+use Prim.Native.Nat.{ℕ, _-_, _≤_}
 use mathlib.Core.Path.{_≡_, sym, ap, _∙_}
 use mathlib.Core.List.{List, _++_}
 use native.Mathlib.Omega.{arith}
@@ -9,7 +9,7 @@ use lib.Seq.{take-at, drop-at}
 use Rattle.definitions.specs.declared.Verdict.{Verdict}
 use Rattle.definitions.specs.declared.Verdict.the-variants.{Accepted, Refused}
 use Rattle.definitions.specs.Lists.{upTo}
-use Rattle.definitions.specs.Refusal.{padded, Lent}
+use Rattle.definitions.specs.Refusal.{Lent}
 use Rattle.definitions.specs.Shuffle.{swapDown, shuffled}
 use Rattle.laws.specs.Counting.{length-upTo}
 use Rattle.shuffle_laws.specs.Shuffled.{length-shuffled}

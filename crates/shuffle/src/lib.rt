@@ -2,7 +2,7 @@
 ghost use Prim.Native.Nat.{_-_, _<_, _*_, _%_, _^_};
 ghost use mathlib.Core.Path.{_≡_};
 ghost use lib.ListN.{length};
-ghost use Rattle.definitions.specs.Shuffle.{topBits, swap, swapDown};
+ghost use Rattle.definitions.specs.Shuffle.{swap, swapDown};
 ghost use Rattle.definitions.specs.Shuffle as rules;
 ghost use Rattle.definitions.specs.Calls.{ShufflePromise};
 use base_permutation::identity;
@@ -28,12 +28,6 @@ pub fn step(state: u32) -> u32
     wrapping_add_u32(wrapping_mul32(state, MULTIPLIER), INCREMENT)
 }
 
-fn top_bits(state: u32) -> usize
-    ensures { λ r. ⌜ r ≡ topBits state ⌝ }
-{
-    (state / 65536) as usize
-}
-
 // Entries i and j may be one.
 fn swap_entries(list: &mut [u8], i: usize, j: usize)
     requires { ⌜ (i < length (now list)) × (j < length (now list)) ⌝ }
@@ -54,7 +48,8 @@ fn swap_down(seed: u32, list: &mut [u8])
     while 1 < i {
         i -= 1;
         state = step(state);
-        swap_entries(list, i, top_bits(state) % (i + 1));
+        let top = (state / 65536) as usize;
+        swap_entries(list, i, top % (i + 1));
     }
 }
 

@@ -1,6 +1,6 @@
 -- Request M-101 of the call `shuffle`, by its promise: when it refuses, with which number, and what it leaves.
 use Prim.Native.Nat.{ℕ, _-_, _≤_, _<_}
-use mathlib.Core.Path.{_≡_, refl, sym, ap, subst, _∙_}
+use mathlib.Core.Path.{_≡_, refl, sym, ap, _∙_}
 use mathlib.Core.Bool.{Bool, true, false}
 use mathlib.Core.List.{List}
 use mathlib.Core.Logic.{_↔_}
@@ -8,11 +8,11 @@ use native.Mathlib.Omega.{arith}
 use lib.Dec.{eqb, ltb}
 use lib.ListN.{length, take, drop, replicate}
 use lib.Seq.{take-at, drop-at}
-use borrow.Author.Tests.{lt-ltb, le-ltb, ltb-true, ltb-false}
+use borrow.Author.Tests.{ltb-true, ltb-false}
 use Rattle.definitions.specs.declared.Verdict.{Verdict}
 use Rattle.definitions.specs.declared.Verdict.the-variants.{Accepted, Refused}
 use Rattle.definitions.specs.Lists.{count}
-use Rattle.definitions.specs.Refusal.{Checked, padded, written}
+use Rattle.definitions.specs.Refusal.{Checked, padded}
 use Rattle.definitions.specs.Shuffle.{shuffled}
 use Rattle.definitions.specs.Calls.{shuffleConditions, ShufflePromise}
 use Rattle.laws.specs.Order.{numbered, checked-unique}

@@ -1,6 +1,6 @@
 -- What the rules of request M-101 make: each number below n exactly once.
 use Prim.Native.Nat.{ℕ, zero, suc, _+_, _-_, _*_, _%_, _^_, _≤_, _<_}
-use mathlib.Core.Path.{_≡_, refl}
+use mathlib.Core.Path.{_≡_}
 use mathlib.Core.List.{List}
 use native.Mathlib.Omega.{arith}
 use native.Mathlib.Nat.{mod-lt, mod-add-mod}
@@ -17,15 +17,16 @@ cut-once state = mod-add-mod (state * multiplier) (2 ^ 32) increment
 
 -- ---- turn by turn
 
+pub mod-below : (x : ℕ) {m n : ℕ} → 0 < m → m ≤ n → x % m < n
+mod-below x h k = omega (arith, mod-lt x h)
+
 -- entry i is swapped, and then those below it
 pub swap-next :
-    (i state next top : ℕ) (l m : List ℕ) → 0 < i → next ≡ step state → top ≡ topBits next →
-    m ≡ swap i (top % (i + 1)) l → swapDown i state l ≡ swapDown (i - 1) next m
+    (i state : ℕ) (l : List ℕ) {next : ℕ} {m : List ℕ} → 0 < i → next ≡ step state →
+    m ≡ swap i (topBits next % (i + 1)) l → swapDown i state l ≡ swapDown (i - 1) next m
 unfolding swapDown
-swap-next zero state next top l m h e f g = absurd (omega arith)
-swap-next (suc i) state next top l m h e f g =
-    let less : suc i - 1 ≡ i = omega arith in
-    rw (g, f, e, less)
+swap-next zero state l h e f = absurd (omega arith)
+swap-next (suc i) state l h e f = let less : suc i - 1 ≡ i = omega arith in rw (f, e, less)
 
 -- nothing is left
 pub swap-none : (i state : ℕ) (l : List ℕ) → i ≤ 1 → l ≡ swapDown (i - 1) state l
@@ -40,9 +41,8 @@ unfolding swapDown
 swaps-permute n zero state p h b = b
 swaps-permute n (suc i) state p h b =
     let j = topBits (step state) % (suc i + 1) in
-    let below : j < suc i + 1 = mod-lt (topBits (step state)) (omega arith) in
     swaps-permute n i (step state) (swap (suc i) j p) (omega arith)
-    (swap-bijection n (suc i) j p h (omega arith) b)
+    (swap-bijection n (suc i) j p h (mod-below (topBits (step state)) (omega arith) (omega arith)) b)
 
 pub shuffled-permutes : (n seed : ℕ) → Bijection n (shuffled n seed)
 unfolding shuffled swapDown

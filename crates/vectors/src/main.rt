@@ -21,6 +21,8 @@
 //   a    base_permutation::apply                  list of bytes, number
 //   v    base_permutation::inverse                list of bytes, room
 //   x    base_permutation::product                two lists of bytes, room
+//   t    shuffle::step                            state, four bytes
+//   h    shuffle::shuffle                         seed, four bytes; size, of sites; room
 //   S    symmetrize_positions                     matrix T; the shift, three floats; lists of positions, of rotations,
 //                                                 of translations and of images: three floats, a matrix or a byte
 //                                                 an entry; room
@@ -76,6 +78,8 @@ fn run(tag: u8) {
         b'a' => permutation::run_apply(),
         b'v' => permutation::run_inverse(),
         b'x' => permutation::run_product(),
+        b't' => permutation::run_step(),
+        b'h' => permutation::run_shuffle(),
         b'W' => coordinates::run_read(),
         b'S' => symmetrization::run_positions(),
         b'L' => symmetrization::run_lattice(),

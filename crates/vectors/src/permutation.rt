@@ -1,16 +1,20 @@
-// The calls of base/permutation.rs.
+// The calls of base/permutation.rs, and the permutation made by rules from a seed.
 use crate::records::MOST;
 use crate::records::lend_bytes;
 use crate::records::print_bytes;
 use crate::records::print_verdict;
 use crate::records::read_bytes;
 use crate::records::read_number;
+use crate::records::read_size;
+use crate::records::read_u32;
 use base_permutation::apply;
 use base_permutation::identity;
 use base_permutation::inverse;
 use base_permutation::product;
 use definitions::Image;
 use definitions::PrimSite;
+use shuffle::shuffle;
+use shuffle::step;
 
 pub(crate) fn run_identity() {
     let n = read_number();
@@ -50,6 +54,21 @@ pub(crate) fn run_product() {
     let mut out = [0u8; MOST];
     let room = lend_bytes(&mut out);
     let v = product(&p[..n], &q[..k], &mut out[..room]);
+    print_verdict(v);
+    print_bytes(&out, room);
+}
+
+pub(crate) fn run_step() {
+    let next = step(read_u32());
+    crate::records::print_count(next as usize);
+}
+
+pub(crate) fn run_shuffle() {
+    let seed = read_u32();
+    let n = read_size();
+    let mut out = [0u8; MOST];
+    let room = lend_bytes(&mut out);
+    let v = shuffle(seed, n, &mut out[..room]);
     print_verdict(v);
     print_bytes(&out, room);
 }

@@ -142,10 +142,14 @@ pub(crate) fn read_number() -> usize {
 }
 
 // four bytes
-fn read_element() -> i32 {
+pub(crate) fn read_u32() -> u32 {
     let low = read_u16() as u32;
     let high = read_u16() as u32;
-    signed_word(low + 65536 * high)
+    low + 65536 * high
+}
+
+fn read_element() -> i32 {
+    signed_word(read_u32())
 }
 
 // no more than a list has room for

@@ -1,19 +1,20 @@
 -- `shuffle::swap_down` meets its contract: what is left to do below i, from the state and the list as they are, makes
 -- what was to be made.
-use Prim.Native.Nat.{_+_, _-_, _%_, _≤_, _<_}
-use mathlib.Core.Path.{_≡_, refl, sym, ap, _∙_}
+use Prim.Native.Nat.{_-_, _≤_}
+use mathlib.Core.Path.{_≡_, refl, sym, _∙_}
 use native.Mathlib.Omega.{arith}
-use native.Mathlib.Nat.{mod-lt}
 use lib.ListN.{length, length-set}
 use borrow.Author.Needs.{needs}
 use Rattle.definitions.specs.Shuffle.{swapDown}
-use Rattle.shuffle_laws.specs.Shuffled.{swap-next, swap-none}
+use Rattle.shuffle_laws.specs.Shuffled.{mod-below, swap-next, swap-none}
 use Rattle.shuffle.proofs.swap_down.Statement.{statement}
 use Rattle.shuffle.proofs.swap_down.Tie as tie
 
 abbrev Inv-loop : tie.InvT-loop
 Inv-loop seed list₀ state₀ i₀ list state i =
-    (i ≤ length list₀) × (length list ≡ length list₀) × (swapDown (i - 1) state list ≡ swapDown (length list₀ - 1) seed list₀)
+    (i ≤ length list₀)
+    × (length list ≡ length list₀)
+    × (swapDown (i - 1) state list ≡ swapDown (length list₀ - 1) seed list₀)
 
 abbrev μ-loop : tie.MeasureT-loop
 μ-loop seed list₀ state₀ i₀ list state i = i
@@ -22,22 +23,15 @@ loop-holds : tie.Need-loop-holds Inv-loop μ-loop
 loop-holds c = (omega arith, refl, refl)
 
 swap-entries-requires : tie.Need-swap-entries-requires Inv-loop μ-loop
-swap-entries-requires c κs =
-    let i = c .before .before .before .before .loop .i in
-    let below : c .top-bits .result % (i - 1 + 1) < i - 1 + 1 = mod-lt (c .top-bits .result) (omega arith) in
-    (omega arith, omega arith)
+swap-entries-requires c κs = (omega arith, mod-below _ (omega arith) (omega arith))
 
 loop-again : tie.Need-loop-again Inv-loop μ-loop
 loop-again c =
-    let l = c .before .before .before .before .before .before .before .loop in
+    let l = c .before .before .before .before .before .before .loop in
     let swapped = c .before .before .swap-entries in
-    let top = c .before .before .before .top-bits in
-    let next = c .before .before .before .before .before .step in
-    let done =
-        swap-next (l .i - 1) (l .state) (next .result) (top .result) (l .list) (swapped .last .0) (omega arith)
-            (next .ensures) (top .ensures) (swapped .ensures)
-    in
-    (omega arith, rw (swapped .ensures) (simp length-set (l .inv .1)), sym done ∙ l .inv .2)
+    let next = c .before .before .before .before .step in
+    let turn = swap-next (l .i - 1) (l .state) (l .list) (omega arith) (next .ensures) (swapped .ensures) in
+    (omega arith, rw (swapped .ensures) (simp length-set (l .inv .1)), sym turn ∙ l .inv .2)
 
 returns : tie.Need-returns Inv-loop μ-loop
 returns c =
@@ -47,4 +41,5 @@ returns c =
 pub swap-down-spec : {M : Type 1} → statement M
 swap-down-spec =
     tie.close
-    (tie.spec Inv-loop μ-loop loop-holds (search needs) (search needs) (search needs) (search needs) (search needs) swap-entries-requires (search needs) loop-again (search needs) returns)
+    (tie.spec Inv-loop μ-loop loop-holds (search needs) (search needs) (search needs) (search needs) (search needs)
+    swap-entries-requires (search needs) loop-again (search needs) returns)
