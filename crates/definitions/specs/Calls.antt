@@ -1,7 +1,7 @@
 -- The public calls: "each call checks the conditions that concern its arguments". For each its conditions on its own
 -- arguments, and one promise: the verdict, the answer, and every lent cell afterwards. Here those of math and
 -- base/permutation.rs,
--- base/transformation.rs, symmetrize/symmetrization.rs.
+-- base/transformation.rs, symmetrize/symmetrization.rs, and that of request M-101 of document 02.
 use Prim.Native.Nat.{ℕ, _*_}
 use mathlib.Core.Path.{_≡_}
 use mathlib.Core.Bool.{Bool, not, _||_}
@@ -119,7 +119,9 @@ productConditions p q room =
 abbrev pub ProductPromise : List ℕ → List ℕ → List ℕ → List ℕ → Verdict → Type 0
 ProductPromise p q entry exit v = Filled 0 (productConditions p q (length entry)) (after p q) entry exit v
 
--- the permutation of n sites that request M-101's rules make of a seed: 2, 10. It starts from the identity, and what
+-- ---- request M-101 of document 02
+
+-- the permutation of n sites that its rules make of a seed: 2, 10. It starts from the identity, and what
 -- concerns the two is the same: "A larger n is refused with 2".
 abbrev pub shuffleConditions : ℕ → ℕ → List Condition
 shuffleConditions = identityConditions
