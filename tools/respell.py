@@ -67,6 +67,19 @@ def declared(files):
     return words, names - goals
 
 
+def imported(top, files):
+    """Names that some file takes from a library: they are not the repository's."""
+    crates = set(os.listdir(top + "/crates"))
+    names = set()
+    for f in files:
+        with open(f, encoding="utf-8") as it:
+            for path, items in re.findall(r"use ([^\s{};]+)\.\{([^}]*)\}", it.read()):
+                parts = path.split(".")
+                if parts[0] != "Rattle" or parts[1] not in crates:
+                    names |= {i.split(" as ")[0].strip() for i in items.split(",")}
+    return names
+
+
 def snake(part):
     """A part without dashes: no capitals in a word; a type, or what follows an underscore, keeps its own."""
     if part[:1].isupper():
@@ -77,6 +90,7 @@ def snake(part):
 
 def table(top):
     words, names = declared(antt_files(top))
+    library = imported(top, antt_files(top) + sorted(glob.glob(top + "/crates/*/src/**/*.rt", recursive=True)))
     known = LIBRARY | {snake(w) for w in words if "-" not in w and len(w) > 1} - PLAIN
     known |= {w for w in names if w[:1].isupper() and "-" not in w}
     to = {}
@@ -84,7 +98,7 @@ def table(top):
         if n in NAMES:
             to[n] = NAMES[n]
             continue
-        if not re.match(r"[A-Za-z]", n) or not re.search(r"-|[a-z0-9][A-Z]", n) or n.startswith("Need"):
+        if n in library or not re.match(r"[A-Za-z]", n) or not re.search(r"-|[a-z0-9][A-Z]", n) or n.startswith("Need"):
             continue
         parts = [snake(p) for p in n.split("-")]
         new = parts[0]

@@ -9,7 +9,7 @@ use native.Mathlib.Numerals.{add-one}
 use lib.Dec.{eqb}
 use lib.ListN.{length, get_or, set, take, replicate}
 use lib.Seq.{get_or-set_same, get_or-set_other, get_or-take, take-suc, take-length, length-take-le}
-use borrow.Author.Tests.{eq-eqb, ne_eqb, eqb-true, eqb-false, not_true}
+use borrow.Author.Tests.{eq-eqb, ne_eqb, eqb-true, eqb-false, not-true}
 use Rattle.definitions.specs.Lists.{all, count}
 use Rattle.definitions.specs.Permutation.{image, is_permutation}
 use Rattle.base_permutation.specs.Bijection.{marked, bijection, preimage, onto_passes}
@@ -37,7 +37,7 @@ pub all_more : (t : ℕ → Bool) (l : List ℕ) (i : ℕ) (w : Bool) → w ≡ 
 all_more t l i w e k = rw (add-one, take-suc l i 0, all_snoc t (take i l) (get_or l i 0), e)
 
 mark_above : (v : ℕ) → marked v ≡ true → 0 < v
-mark_above v e = let f = eqb-false v 0 (not_true (eqb v 0) e) in omega arith
+mark_above v e = let f = eqb-false v 0 (not-true (eqb v 0) e) in omega arith
 
 above_mark : (v : ℕ) → 0 < v → marked v ≡ true
 above_mark v h = rw (ne_eqb v 0 (λ q. omega arith))

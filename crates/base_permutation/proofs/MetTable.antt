@@ -18,9 +18,9 @@ use Rattle.laws.specs.Filling.{zeros}
 abbrev pub Met : List ℕ → ℕ → List ℕ → Type 0
 Met p i met = (x : ℕ) → x < 256 → (count (eqb x) (take i p) ≡ get_or met x 0) × (get_or met x 0 ≤ 1)
 
-not_true : (b : Bool) → (b ≡ true → ⊥) → false ≡ b
-not_true true f = absurd (f refl)
-not_true false f = refl
+not-true : (b : Bool) → (b ≡ true → ⊥) → false ≡ b
+not-true true f = absurd (f refl)
+not-true false f = refl
 
 pub met_none : (p : List ℕ) → Met p 0 (replicate 256 0)
 unfolding count
@@ -45,14 +45,14 @@ met_more p met i x m k long h e free y g = by (eqb y x) refl
 
 -- an image met before counts twice
 pub met_twice : (p met : List ℕ) (i x : ℕ) → Met p i met → i < length p → x < 256 → x ≡ image p i → (get_or met x 0 ≡ 0 → ⊥) → false ≡ is_permutation (length p) p
-met_twice p met i x m k h e f = not_true _ (λ t.
+met_twice p met i x m k h e f = not-true _ (λ t.
     let c = counted (length p) p t i k in
     let d = count_from (eqb (image p i)) 0 p i k (eq-eqb (image p i) (image p i) refl) in
     let o : count (eqb (image p i)) (take i p) ≡ get_or met x 0 = rw (← e) (m x h).0 in
     omega arith)
 
 pub met_outside : (p : List ℕ) (i x : ℕ) → i < length p → x ≡ image p i → length p ≤ x → false ≡ is_permutation (length p) p
-met_outside p i x k e h = not_true _ (λ t. omega (arith, (bijection (length p) p t).below i k))
+met_outside p i x k e h = not-true _ (λ t. omega (arith, (bijection (length p) p t).below i k))
 
 -- nothing was met twice
 pub met_all : (p met : List ℕ) (i : ℕ) → Met p i met → i ≡ length p → ((j : ℕ) → j < i → image p j < length p) → ((j : ℕ) → image p j < 256) → true ≡ is_permutation (length p) p

@@ -31,8 +31,8 @@ pub T→true : (b : Bool) → T b → b ≡ true
 T→true true t = refl
 T→true false t = absurd t
 
-and_true : {a b : Bool} → a ≡ true → b ≡ true → (a && b) ≡ true
-and_true e f = rw (e, f)
+and-true : {a b : Bool} → a ≡ true → b ≡ true → (a && b) ≡ true
+and-true e f = rw (e, f)
 
 and_left : (a b : Bool) → (a && b) ≡ true → a ≡ true
 and_left true b e = refl
@@ -46,12 +46,12 @@ and_right false b e = absurd (never e)
 pub passes : (n : ℕ) (p : List ℕ) → length p ≡ n → ((i : ℕ) → i < n → (image p i < n) × (count (eqb (image p i)) p ≤ 1)) → is_permutation n p ≡ true
 unfolding is_permutation
 passes n p s h =
-    and_true (eq-eqb (length p) n s)
+    and-true (eq-eqb (length p) n s)
     (all_of (λ i. ltb i n && eqb (count (eqb i) p) 1) 0 p
     (λ i k.
     let g = h i (omega arith) in
     let c = count_from (eqb (image p i)) 0 p i k (eq-eqb (image p i) (image p i) refl) in
-    and_true (lt-ltb (image p i) n g.0) (eq-eqb (count (eqb (image p i)) p) 1 (omega (arith, g.1, c)))))
+    and-true (lt-ltb (image p i) n g.0) (eq-eqb (count (eqb (image p i)) p) 1 (omega (arith, g.1, c)))))
 
 module _ (n : ℕ) (p : List ℕ) (b : Bijection n p) where
   -- a number stands at one place at most

@@ -15,14 +15,14 @@ use borrow.Author.Tests.{ltb-false, eq-eqb, lt-ltb, le-ltb, le-leb, leb-true, le
 use Rattle.definitions.specs.Lists.{all}
 use Rattle.definitions.specs.Real.{is_finite}
 use Rattle.definitions.specs.Limits.{magnitude}
-use Rattle.laws.specs.Tests.{and_true}
+use Rattle.laws.specs.Tests.{and-true}
 
 -- ---- whole numbers
 
 -- from -31 to 31, by the code's two comparisons
 pub in_limits : (z : ℤ) → (le_z (negsuc 30) z && le_z z (pos 31)) ≡ leb (nat_abs z) 31
 in_limits (pos n) = refl
-in_limits (negsuc n) = and_true (leb n 30) ∙ sym (leb-suc-suc n 30)
+in_limits (negsuc n) = and-true (leb n 30) ∙ sym (leb-suc-suc n 30)
 
 -- from 1 to m
 pub from_one : (n m : ℕ) → (leb 1 n && leb n m) ≡ not (eqb n 0 || ltb m n)
@@ -61,4 +61,4 @@ in_limits_F k d nan = refl
 in_limits_F k d (inf true) = refl
 in_limits_F k d (inf false) = refl
 in_limits_F k d (fin false m e) = rw (below_or_level (k * up d * down e) (m * up e * down d))
-in_limits_F k d (fin true m e) = rw (below_or_level (m * up e * down d) (k * up d * down e), eqb_sym (k * up d * down e) (m * up e * down d)) (and_true _)
+in_limits_F k d (fin true m e) = rw (below_or_level (m * up e * down d) (k * up d * down e), eqb_sym (k * up d * down e) (m * up e * down d)) (and-true _)

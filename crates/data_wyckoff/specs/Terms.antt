@@ -197,9 +197,9 @@ and_false : (p : Bool) → (p && false) ≡ false
 and_false true = refl
 and_false false = refl
 
-and_true : (p : Bool) → (p && true) ≡ p
-and_true true = refl
-and_true false = refl
+and-true : (p : Bool) → (p && true) ≡ p
+and-true true = refl
+and-true false = refl
 
 -- an entry in range is kept
 kept_small : (e : ℤ) → T (small e) → kept e ≡ e
@@ -224,7 +224,7 @@ module _ (t u v : Term) (j k n : ℕ) where
   good_range : good_rows (row_at (some t) j) (row_at (some u) k) (row_at (some v) n) n ≡ in_range (three t u v)
   unfolding in_range
   good_range =
-      rw (eq-eqb n n refl, and_true, row_good t j, row_good u k, row_good v n)
+      rw (eq-eqb n n refl, and-true, row_good t j, row_good u k, row_good v n)
       (all_three (all small) [] (term_row t ∷ term_row u ∷ term_row v ∷ []) refl)
 
   rows-kept : T (good_rows (row_at (some t) j) (row_at (some u) k) (row_at (some v) n) n) →

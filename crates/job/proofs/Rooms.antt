@@ -4,7 +4,7 @@ use mathlib.Core.Path.{◌≡◌, refl, sym, ◌∙◌}
 use mathlib.Core.Bool.{Bool, true, false, not, ◌||◌}
 use mathlib.Core.List.{List, [], ◌∷◌}
 use native.Mathlib.Omega.{arith}
-use borrow.Author.Tests.{ltb-false, lt-ltb, le-ltb, eqb-true, not_true}
+use borrow.Author.Tests.{ltb-false, lt-ltb, le-ltb, eqb-true, not-true}
 use lib.ListN.{length}
 use lib.Dec.{T, ltb, eqb}
 use Rattle.definitions.specs.declared.JobCounts.{JobCounts}
@@ -110,4 +110,4 @@ pub read_so : (bs : List ℕ) (k : JobCounts) (e : Rooms) → readable bs k e �
 read_so bs k e h =
     let both = both_pass (takes_up k (length bs)) (not (short k e)) (so h) in
     let bytes = both_pass (not (ltb most_bytes (length bs))) (eqb (symprec_from k + 10) (length bs)) both.0 in
-    (eqb-true _ _ (true_of _ bytes.1), enough k e (not_true _ (true_of _ both.1)))
+    (eqb-true _ _ (true_of _ bytes.1), enough k e (not-true _ (true_of _ both.1)))

@@ -46,9 +46,9 @@ and_left a b h = (both_pass a b h).0
 pub and_right : (a b : Bool) → T (a && b) → T b
 and_right a b h = (both_pass a b h).1
 
-pub and_true : (b : Bool) → (b && true) ≡ b
-and_true true = refl
-and_true false = refl
+pub and-true : (b : Bool) → (b && true) ≡ b
+and-true true = refl
+and-true false = refl
 
 -- ---- one of two
 

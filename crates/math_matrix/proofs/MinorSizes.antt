@@ -1,5 +1,5 @@
 -- How large minors are: those of numbers of 16 bits fit 32, and those of 8 bits 16, so the inverse of a matrix of 8 bits has 16.
-use Prim.Native.Nat.{ℕ, zero, suc, ◌+◌, ◌*◌, ◌≤◌, ◌<◌, zero_le}
+use Prim.Native.Nat.{ℕ, zero, suc, ◌+◌, ◌*◌, ◌≤◌, ◌<◌, zero-le}
 use mathlib.Core.Path.{subst}
 use native.Mathlib.Omega.{arith}
 use native.Mathlib.Nat.{mul-le-mul, mul_comm, mul-lt-mul_of_pos_right, le_of_suc-le-suc}
@@ -53,7 +53,7 @@ minor_fits {a} {b} {c} {d} f g h k = fits_abs w32 (minor a b c d) (minor-abs 327
 
 pub inverse_small : (t : Matrix) → ((i j : ℕ) → SFits w8 (at t i j)) → Bound 32767 (inverse t)
 inverse_small t f =
-    mat-all (λ z. nat_abs z ≤ 32767) (λ i j. unit (det t) *ℤ cofactor t j i) zero_le
+    mat-all (λ z. nat_abs z ≤ 32767) (λ i j. unit (det t) *ℤ cofactor t j i) zero-le
     (λ i j. abs-mul_le (unit (det t)) (cofactor t j i) 1 32767 (unit-abs (det t)) (small j i))
   where
     small : (i j : ℕ) → nat_abs (cofactor t i j) ≤ 32767

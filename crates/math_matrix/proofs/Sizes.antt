@@ -1,5 +1,5 @@
 -- How large the entries of a matrix make its cofactors, its determinant and its inverse.
-use Prim.Native.Nat.{ℕ, zero, suc, ◌*◌, ◌≤◌, zero_le}
+use Prim.Native.Nat.{ℕ, zero, suc, ◌*◌, ◌≤◌, zero-le}
 use mathlib.Core.Path.{◌≡◌, refl}
 use mathlib.Core.Bool.{Bool, true, false, cond}
 use mathlib.Core.List.{List}
@@ -61,5 +61,5 @@ row_small x y l g =
     three-all
     (λ z. nat_abs z ≤ 2147483647)
     (λ j. dot (item x 0) (item x 1) (item x 2) (at y 0 j) (at y 1 j) (at y 2 j))
-    zero_le
+    zero-le
     (λ j. omega (arith, dot-abs 32768 128 (item x 0) (item x 1) (item x 2) (at y 0 j) (at y 1 j) (at y 2 j) (l 0) (l 1) (l 2) (g 0 j) (g 1 j) (g 2 j)))

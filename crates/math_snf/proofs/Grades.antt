@@ -1,7 +1,7 @@
 -- The steps of a pass, graded one by one, are the pass, graded.
 use Prim.Native.Nat.{ℕ, suc, zero, ◌<◌}
 use mathlib.Core.Path.{◌≡◌, refl, sym, ap, ◌∙◌, subst, ap₂}
-use mathlib.Core.Bool.{Bool, true, false, cond, ◌&&◌, ◌||◌, and_true, or-false, or-true}
+use mathlib.Core.Bool.{Bool, true, false, cond, ◌&&◌, ◌||◌, and-true, or-false, or-true}
 use mathlib.Core.List.{List, [], ◌∷◌, ◌++◌, append-nil, append_assoc}
 use native.Mathlib.Omega.{arith}
 use lib.Dec.{leb}
@@ -20,7 +20,7 @@ use Rattle.math_snf.specs.Step.{kept, kept_row, kept_column, grade, worse, Grade
 
 pub all_three : {A : Type 0} (t : A → Bool) (x y z : A) → all t (x ∷ y ∷ z ∷ []) ≡ (t x && (t y && t z))
 unfolding all
-all_three t x y z = all_is t x (y ∷ z ∷ []) ∙ ap (λ (b : Bool). t x && b) (all_is t y (z ∷ []) ∙ ap (λ (b : Bool). t y && b) (all_is t z [] ∙ and_true (t z)))
+all_three t x y z = all_is t x (y ∷ z ∷ []) ∙ ap (λ (b : Bool). t x && b) (all_is t y (z ∷ []) ∙ ap (λ (b : Bool). t y && b) (all_is t z [] ∙ and-true (t z)))
 
 -- ---- entries that are kept
 

@@ -1,5 +1,5 @@
 -- Whole numbers in bits, and tests of them.
-use Prim.Native.Nat.{ℕ, suc, ◌≤◌, ◌<◌, ◌^◌, ◌/◌, zero_le}
+use Prim.Native.Nat.{ℕ, suc, ◌≤◌, ◌<◌, ◌^◌, ◌/◌, zero-le}
 use mathlib.Core.Path.{◌≡◌, refl, sym, ap, ◌∙◌}
 use native.Mathlib.Omega.{arith}
 use native.Mathlib.Nat.{div-le_self, div-zero}
@@ -50,7 +50,7 @@ not_below_0 (pos n) e = refl
 not_below_0 (negsuc n) e = let x : ◌≡◌ {A = ℕ} 0 1 = cc in absurd (omega arith)
 
 pub below_0 : (z : ℤ) → le_z (pos 0) z ≡ false → z ≡ negsuc (mag z)
-below_0 (pos n) e = let x : ◌≡◌ {A = ℕ} 0 1 = cc (le-leb 0 n zero_le) in absurd (omega arith)
+below_0 (pos n) e = let x : ◌≡◌ {A = ℕ} 0 1 = cc (le-leb 0 n zero-le) in absurd (omega arith)
 below_0 (negsuc n) e = refl
 
 -- a test from both sides is one of the magnitude

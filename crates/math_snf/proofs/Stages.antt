@@ -1,5 +1,5 @@
 -- A stage pass by pass, and a run stage by stage.
-use Prim.Native.Nat.{ℕ, suc, zero, ◌+◌, ◌≤◌, ◌<◌, zero_le}
+use Prim.Native.Nat.{ℕ, suc, zero, ◌+◌, ◌≤◌, ◌<◌, zero-le}
 use mathlib.Core.Path.{◌≡◌, refl, ap, ◌∙◌, subst}
 use mathlib.Core.Bool.{Bool, true, false, cond, ◌&&◌, false≢true}
 use mathlib.Core.List.{List, [], ◌∷◌, ◌++◌, append_assoc}
@@ -44,10 +44,10 @@ due_falls s h t p e = by (pivot s (pass s p t).state.d) refl
 
     at_pivot : (q : Place) → pivot s u.d ≡ some q → (b : Bool) → (pass s q u).updated ≡ b → cond b (suc (size_at u.d q)) 0 ≤ size_at t.d p
     at_pivot q f true c = falls s p t (chosen t.d p i e) q (chosen u.d q i f) c
-    at_pivot q f false c = zero_le
+    at_pivot q f false c = zero-le
 
     by : (o : Option Place) → pivot s u.d ≡ o → due s u o ≤ size_at t.d p
-    by none f = zero_le
+    by none f = zero-le
     by (some q) f = at_pivot q f (pass s q u).updated refl
 
 -- ---- the loop of a stage

@@ -12,7 +12,7 @@ use Rattle.definitions.specs.Real.{zero_f, units_of, is_finite, negative, Neares
 use Rattle.math_sqrt.specs.Half.{sign_of}
 use Rattle.math_sqrt.specs.Nearest.{sqrt_is_nearest}
 use Rattle.math_sqrt.specs.Value.{units_of_value, own_value}
-use Rattle.math_sqrt.specs.Order.{le_lt_trans, not_below_itself, nan_not_above, zero_le, finite_le, zero_not_le, positive_not_le}
+use Rattle.math_sqrt.specs.Order.{le_lt_trans, not_below_itself, nan_not_above, zero-le, finite_le, zero_not_le, positive_not_le}
 
 -- ---- the root of a float above 0
 
@@ -66,7 +66,7 @@ from_zero (fin s zero e) nan f g h k = absurd (false≢true k)
 from_zero (fin s zero e) (inf true) f g h k = absurd (false≢true k)
 from_zero (fin s zero e) (inf false) f g h k = refl
 from_zero (fin s zero e) (fin t zero d) f g h k = k
-from_zero (fin s zero e) (fin false (suc n) d) f g h k = zero_le s e (sqrt (fin false (suc n) d)) (root_of n d g).finite (root_of n d g).sign
+from_zero (fin s zero e) (fin false (suc n) d) f g h k = zero-le s e (sqrt (fin false (suc n) d)) (root_of n d g).finite (root_of n d g).sign
 from_zero (fin s zero e) (fin true (suc n) d) f g h k = absurd (zero_not_le s n e d k)
 from_zero (fin true (suc m) e) y f g h k = absurd (zero_not_le false m (pos 0) e h)
 from_zero (fin false (suc m) e) nan f g h k = absurd (false≢true k)
@@ -99,7 +99,7 @@ unfolding le sqrt
 has_root nan p h = absurd (false≢true (sym (nan_not_above p) ∙ h))
 has_root (inf true) p h = absurd (false≢true (sym (nan_not_above p) ∙ h))
 has_root (inf false) p h = refl
-has_root (fin false m e) p h = zero_le false (pos 0) (fin false m e) tt refl
+has_root (fin false m e) p h = zero-le false (pos 0) (fin false m e) tt refl
 has_root (fin true zero e) p h = rw (eq-eqb (0 * up (pos 0) * down e) (0 * up e * down (pos 0)) (omega arith), eq-eqb (0 * up (pos 0) * down e) 0 (omega arith))
 has_root (fin true (suc m) e) p h = absurd (false≢true (sym (nan_not_above p) ∙ h))
 

@@ -151,12 +151,12 @@ nan_not_above (fin s m e) = refl
 
 -- ---- zeros and +infinity
 
-pub zero_le : (s : Bool) (e : ℤ) (r : Float) → T (is_finite r) → negative r ≡ false → le (fin s zero e) r ≡ true
+pub zero-le : (s : Bool) (e : ℤ) (r : Float) → T (is_finite r) → negative r ≡ false → le (fin s zero e) r ≡ true
 unfolding le
-zero_le s e nan f n = absurd f
-zero_le s e (inf t) f n = absurd f
-zero_le s e (fin true m d) f n = absurd (false≢true (sym n))
-zero_le s e (fin false m d) f n = by s (0 * up e * down d) (m * up d * down e) (omega arith)
+zero-le s e nan f n = absurd f
+zero-le s e (inf t) f n = absurd f
+zero-le s e (fin true m d) f n = absurd (false≢true (sym n))
+zero-le s e (fin false m d) f n = by s (0 * up e * down d) (m * up d * down e) (omega arith)
   where
     none : (s : Bool) (b : ℕ) → (below s 0 false b || level s 0 false b) ≡ true
     none false zero = refl

@@ -4,7 +4,7 @@ use mathlib.Core.Path.{◌≡◌, refl, sym, ap, ◌∙◌}
 use mathlib.Core.Bool.{Bool, true, false, ◌||◌}
 use mathlib.Core.List.{List, []}
 use lib.ListN.{length}
-use borrow.Author.Tests.{ltb-false, eqb-true, not_true, not-false}
+use borrow.Author.Tests.{ltb-false, eqb-true, not-true, not-false}
 use Rattle.definitions.specs.declared.Verdict.{Verdict}
 use Rattle.definitions.specs.declared.Verdict.TheVariants.{Accepted, Refused}
 use Rattle.definitions.specs.Calls.{align_conditions, AlignPromise}
@@ -64,7 +64,7 @@ module _
       length gs * n ≤ length old → r ≡ true → new ≡ cut 0 (length gs * n) mid →
       Settled t rs images n gs old new Accepted
   settled_found h e c = (
-    not_true _ (sym a.none_absent ∙ e),
+    not-true _ (sym a.none_absent ∙ e),
     padded_by 0 (each (λ p. p) (aligned_to n t rs images gs)) old new mid (length gs * n) (a.long e) h (a.front e) c,
   )
 

@@ -7,7 +7,7 @@ use native.Mathlib.Omega.{arith}
 use lib.ListN.{length, take}
 use lib.IntN.{ℤ, pos}
 use lib.Ieee.{Float}
-use borrow.Author.Tests.{not_true, not-false}
+use borrow.Author.Tests.{not-true, not-false}
 use Rattle.definitions.specs.declared.Verdict.{Verdict}
 use Rattle.definitions.specs.declared.Verdict.TheVariants.{Accepted, Refused}
 use Rattle.definitions.specs.declared.Standardized.{Standardized}
@@ -279,7 +279,7 @@ module _ (x : Given) (e z : AnswerCells) (shape : Three x.c) (p : Passed (condit
           accepted (answer_of done),
           (
             accepted_with (conditions x (rooms_of e)) (IsAnswer j) (answer_of done)
-                (accepted_past x (rooms_of e) p shape l.run ss are ls labels long (not_true unfit (sym q))) (done, refl),
+                (accepted_past x (rooms_of e) p shape l.run ss are ls labels long (not-true unfit (sym q))) (done, refl),
             holds h,
           ),
           (λ i. standardized.Accepted (listed_is x (known_like x (rooms_of e) p) i) (length (orbits (sym labels_front i)))) ∙ sym t,

@@ -6,7 +6,7 @@ use mathlib.Core.List.{List, [], ◌∷◌, map}
 use mathlib.Core.Logic.{◌⊎◌, inl, inr, ⊎_elim}
 use native.Mathlib.Nat.{not-suc-le-zero, le_of_suc-le-suc}
 use native.Mathlib.Omega.{arith}
-use borrow.Author.Tests.{ltb-false, le-ltb, lt-ltb, eq-eqb, eqb-true, not_true, not-false}
+use borrow.Author.Tests.{ltb-false, le-ltb, lt-ltb, eq-eqb, eqb-true, not-true, not-false}
 use lib.Dec.{T, ltb}
 use lib.ListN.{length, get_or, take, replicate, length-map}
 use lib.Seq.{take_at}
@@ -534,7 +534,7 @@ module _ (x : LetterArguments) (entry exit : LetterCells) where
         by_labels w (with_all m r ls right a h) = (
           accept conditions₃
               (pass conditions₃ 7 (pass conditions₃ 6 (pass conditions₃ 5 passed (not_so m)) (not_so r))
-              (λ u. not_so {b = orbit_without_fit (sites_of (design ls right))} (not_true _ (fits_or_not ls right true a))
+              (λ u. not_so {b = orbit_without_fit (sites_of (design ls right))} (not-true _ (fits_or_not ls right true a))
               (unfit_by (design ls right) u))) refl,
           (
             lettered (design ls right),

@@ -4,7 +4,7 @@ use mathlib.Core.Path.{◌≡◌, refl, sym, ◌∙◌}
 use native.Mathlib.Omega.{arith}
 use lib.ListN.{length}
 use borrow.Author.Rules.{rules}
-use borrow.Author.Tests.{not_true, not-false}
+use borrow.Author.Tests.{not-true, not-false}
 use Rattle.base_permutation.proofs.Parts.{is_nth, PassedTo, one_passes, one_fails, all_passed, part_is, cut_short, of_no_sites}
 use Rattle.laws.specs.Lists.{next_part}
 use Rattle.base_permutation.proofs.all_permutations.Statement.{statement}
@@ -46,7 +46,7 @@ returns-3 : tie.Need-returns-3 invariant-loop decreases-loop
 returns-3 c =
     let l = c.before.before.before.before.before.loop in
     let a = c.before.before.before.before.before.before.before.before.args in
-    one_fails a.images.now a.n a.k l.o l.invariant.3 (omega arith) (sym (nth c.before) ∙ not_true _ c.if3.true)
+    one_fails a.images.now a.n a.k l.o l.invariant.3 (omega arith) (sym (nth c.before) ∙ not-true _ c.if3.true)
 
 loop-again : tie.Need-loop-preserved invariant-loop decreases-loop
 loop-again c =

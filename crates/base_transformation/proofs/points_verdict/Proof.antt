@@ -1,6 +1,6 @@
 -- Each return has tested what comes before it.
 use Rattle.std.proofs.Common.{◌≡◌, true, false, not, ltb, sym, refl, ap, ◌∙◌, subst, rules, le-ltb, lt-ltb}
-use borrow.Author.Tests.{not_true, not-false}
+use borrow.Author.Tests.{not-true, not-false}
 use Rattle.definitions.specs.declared.Verdict.TheVariants.{Accepted, Refused}
 use Rattle.definitions.specs.Limits.{in_range, bad_copies}
 use Rattle.laws.specs.Verdicts.{holds, fails, untested, is_true, is_false, verdict_of, checked}
@@ -44,7 +44,7 @@ returns-3 c =
     let e = c.before.before.before.before in
     let f = c.before.diagonalise in
     let leaves =
-    subst (Diagonalised e.before.before.before.before.args.c f.new.1.0 f.new.1.1.0) (not_true f.result c.if3.true) f.ensures in
+    subst (Diagonalised e.before.before.before.before.args.c f.new.1.0 f.new.1.1.0) (not-true f.result c.if3.true) f.ensures in
     (checked _ (is_false (entries e.before.before), (is_false (copied e), (holds leaves, (untested, tt)))) (Refused 8) refl, tt)
 
 returns-4 : tie.Need-returns-4

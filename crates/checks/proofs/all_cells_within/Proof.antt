@@ -5,7 +5,7 @@ use mathlib.Core.List.{[]}
 use native.Mathlib.Omega.{arith}
 use lib.ListN.{length, drop}
 use borrow.Author.Rules.{rules}
-use borrow.Author.Tests.{not_true, not-false}
+use borrow.Author.Tests.{not-true, not-false}
 use Rattle.definitions.specs.Lists.{all}
 use Rattle.definitions.specs.Lent.{cells_within}
 use Rattle.checks.proofs.all_cells_within.Statement.{statement}
@@ -22,7 +22,7 @@ returns : tie.Need-returns invariant-loop decreases-loop
 returns c =
     let b = c.before.before.before.before in
     let h : b.loop.i < length b.before.args.ps.now = omega arith in
-    sym (sym b.loop.invariant.1 ∙ all_fail cells_within [] b.before.args.ps.now b.loop.i h (sym c.before.cells-within.ensures ∙ not_true c.before.cells-within.result c.if1.true))
+    sym (sym b.loop.invariant.1 ∙ all_fail cells_within [] b.before.args.ps.now b.loop.i h (sym c.before.cells-within.ensures ∙ not-true c.before.cells-within.result c.if1.true))
 
 loop-less : tie.Need-loop-smaller invariant-loop decreases-loop
 loop-less c = omega arith

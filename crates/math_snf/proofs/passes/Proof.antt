@@ -1,5 +1,5 @@
 use borrow.Author.Rules.{rules}
-use borrow.Author.Tests.{not_true, not-false}
+use borrow.Author.Tests.{not-true, not-false}
 use mathlib.Core.Path.{◌≡◌, refl, sym, ap, ◌∙◌}
 use mathlib.Core.Bool.{true}
 use mathlib.Core.Option.{some}
@@ -15,12 +15,12 @@ is_in_range c = sym c.before.is_in_range.ensures ∙ not-false c.before.is_in_ra
 
 returns : tie.Need-returns
 returns c =
-    (outside_refused c.before.before.args.m (sym c.before.is_in_range.ensures ∙ not_true c.before.is_in_range.result c.if1.true), refl)
+    (outside_refused c.before.before.args.m (sym c.before.is_in_range.ensures ∙ not-true c.before.is_in_range.result c.if1.true), refl)
 
 returns-2 : tie.Need-returns-2
 returns-2 c =
     let y = c.before.before.before.run in (
-      leaving_refused y.ensures.ran.run (is_in_range c.before.before.before.before.before.before.before.before.before.before) (y.ensures.ran.is_in_range ∙ not_true y.result.small c.if2.true),
+      leaving_refused y.ensures.ran.run (is_in_range c.before.before.before.before.before.before.before.before.before.before) (y.ensures.ran.is_in_range ∙ not-true y.result.small c.if2.true),
       (y.ensures.ran.run, ap some (sym y.ensures.counted)),
     )
 

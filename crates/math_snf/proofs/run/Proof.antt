@@ -1,5 +1,5 @@
 use borrow.Author.Rules.{rules}
-use borrow.Author.Tests.{not_true, not-false}
+use borrow.Author.Tests.{not-true, not-false}
 use mathlib.Core.Path.{subst, subst₂}
 use mathlib.Core.Bool.{Bool, true}
 use Rattle.definitions.specs.Matrix.{Matrix, identity}
@@ -38,7 +38,7 @@ returns c =
     let x = c.before.before.before in
     rw c.ended.ensures
     (ran_first x.before.before.before.before.before.before.args.m (after x) x.stage.result.passes
-    (subst (λ (b : Bool). EndedIn 0 (start x.before.before.before.before.before.before.args.m) b x.stage.result.passes (after x)) (not_true x.stage.result.small c.before.if1.true) (first x)))
+    (subst (λ (b : Bool). EndedIn 0 (start x.before.before.before.before.before.before.args.m) b x.stage.result.passes (after x)) (not-true x.stage.result.small c.before.if1.true) (first x)))
 
 returns-2 : tie.Need-returns-2
 returns-2 c =
@@ -47,7 +47,7 @@ returns-2 c =
     let x = e.before.before in
     rw c.ended2.ensures
     (ran_second x.before.before.before.before.before.before.args.m (after x) (after_2 y) x.stage.result.passes y.stage2.result.passes (first_small e)
-    (subst (λ (b : Bool). EndedIn 1 (after x) b y.stage2.result.passes (after_2 y)) (not_true y.stage2.result.small c.before.if2.true) y.stage2.ensures))
+    (subst (λ (b : Bool). EndedIn 1 (after x) b y.stage2.result.passes (after_2 y)) (not-true y.stage2.result.small c.before.if2.true) y.stage2.ensures))
 
 returns-3 : tie.Need-returns-3
 returns-3 c =

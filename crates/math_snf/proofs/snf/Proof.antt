@@ -1,5 +1,5 @@
 use borrow.Author.Rules.{rules}
-use borrow.Author.Tests.{not_true, not-false}
+use borrow.Author.Tests.{not-true, not-false}
 use mathlib.Core.Path.{◌≡◌, sym, ◌∙◌}
 use mathlib.Core.Bool.{true}
 use Rattle.definitions.specs.Limits.{in_range}
@@ -15,13 +15,13 @@ returns : tie.Need-returns
 returns c =
     let s = c.before.before.before.before.before in
     rw c.refuse.ensures.0
-    (outside_refused s.before.args.m (sym s.is_in_range.ensures ∙ not_true s.is_in_range.result c.before.before.before.before.if1.true), c.refuse.ensures.1)
+    (outside_refused s.before.args.m (sym s.is_in_range.ensures ∙ not-true s.is_in_range.result c.before.before.before.before.if1.true), c.refuse.ensures.1)
 
 returns-2 : tie.Need-returns-2
 returns-2 c =
     let y = c.before.before.before.before.before.before.run in
     rw c.refuse2.ensures.0
-    (leaving_refused y.ensures.ran.run (is_in_range c.before.before.before.before.before.before.before.before.before.before) (y.ensures.ran.is_in_range ∙ not_true y.result.small c.before.before.before.before.if2.true), c.refuse2.ensures.1)
+    (leaving_refused y.ensures.ran.run (is_in_range c.before.before.before.before.before.before.before.before.before.before) (y.ensures.ran.is_in_range ∙ not-true y.result.small c.before.before.before.before.if2.true), c.refuse2.ensures.1)
 
 returns-3 : tie.Need-returns-3
 returns-3 c =

@@ -3,7 +3,7 @@ use mathlib.Core.Path.{ap, ◌≡◌, refl, ◌∙◌}
 use mathlib.Core.Bool.{Bool, false, not}
 use mathlib.Core.List.{List}
 use lib.ListN.{length}
-use borrow.Author.Tests.{not_true, not-false}
+use borrow.Author.Tests.{not-true, not-false}
 use borrow.Author.Rules.{rules}
 use Rattle.definitions.specs.Symmetrization.{lattice_fails, symmetrized_basis}
 use Rattle.definitions.specs.Lists.{all}
@@ -78,7 +78,7 @@ returns-5 c =
       refused_12 s.args.l s.args.t s.args.c s.args.rotations.now (count_passed c.before.before.before.before.before.before.before.before.before.before) (entries_passed c.before.before.before.before.before.before.before.before) (floats_passed c.before.before.before.before.before.before) (determinants_passed c.before.before.before.before)
           (branch_fails y.result (of fails s) (lattice_ensured c.before) c.if5.true),
       when_false y.result y.new.1.1.0 (symmetrized_basis c.before.before.before.conventional-basis.result s.args.rotations.now) zeros y.ensures.1
-          (not_true y.result c.if5.true),
+          (not-true y.result c.if5.true),
     )
 
 returns-6 : tie.Need-returns-6

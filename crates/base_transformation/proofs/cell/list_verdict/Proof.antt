@@ -1,6 +1,6 @@
 -- `list_verdict`: each return has tested what comes before it.
 use Rattle.std.proofs.Common.{◌≡◌, ℕ, ◌*◌, ◌≤◌, true, false, not, eqb, ltb, List, length, sym, refl, ap, ◌∙◌, subst, mul-le-mul, arith, rules, ltb-false, le-ltb, lt-ltb}
-use borrow.Author.Tests.{not_true, not-false}
+use borrow.Author.Tests.{not-true, not-false}
 use Rattle.definitions.specs.declared.Verdict.TheVariants.{Accepted, Refused}
 use Rattle.definitions.specs.Refusal.{Condition}
 use Rattle.definitions.specs.Limits.{in_range, bad_copies, copies, too_many_sites, too_many_listed, shorter_than}
@@ -117,7 +117,7 @@ unfolding verdict_of found_at_lem HoldsAt
 returns-5 c =
     let e = c.before.before.before.before in
     let f = c.before.diagonalise in
-    let leaves = subst (Diagonalised (start₄ e).args.c f.new.1.0 f.new.1.1.0) (not_true f.result c.if5.true) f.ensures in
+    let leaves = subst (Diagonalised (start₄ e).args.c f.new.1.0 f.new.1.1.0) (not-true f.result c.if5.true) f.ensures in
     (refuse _ 4 (past₄ e) leaves (Refused 8) refl, tt)
 
 mul-listed : tie.Need-overflow-mul-listed

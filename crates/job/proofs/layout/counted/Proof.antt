@@ -3,7 +3,7 @@ use Prim.Native.Nat.{◌≤◌}
 use mathlib.Core.Path.{refl, sym, subst}
 use native.Mathlib.Omega.{arith}
 use lib.ListN.{length}
-use borrow.Author.Tests.{not_true, not-false}
+use borrow.Author.Tests.{not-true, not-false}
 use Rattle.definitions.specs.Limits.{most_bytes}
 use Rattle.job_laws.specs.Reader.{bytes_known}
 use Rattle.job.specs.Places.{Closes}
@@ -19,7 +19,7 @@ opens-requires : tie.Need-opens-requires
 opens-requires c κs = search rules
 
 returns-2 : tie.Need-returns-2
-returns-2 c = (refl, opens_not c.before.before.before.before.args.bytes.now (c.before.opens.ensures.no (not_true _ c.if2.true)))
+returns-2 c = (refl, opens_not c.before.before.before.before.args.bytes.now (c.before.opens.ensures.no (not-true _ c.if2.true)))
 
 layout-requires : tie.Need-layout-requires
 layout-requires c κs = (c.before.opens.ensures.yes (not-false _ c.if2.false)).room
@@ -35,7 +35,7 @@ returns-3 c =
     let bs = c.before.before.before.before.before.before.before.before.args.bytes.now in
     let k = c.before.before.before.layout in
     let end = c.before.before.symprec-from.ensures in
-    (refl, closes_not bs k.result k.ensures (λ z. c.before.closes.ensures.no (not_true _ c.if3.true) (subst (Closes bs) (sym end) z)))
+    (refl, closes_not bs k.result k.ensures (λ z. c.before.closes.ensures.no (not-true _ c.if3.true) (subst (Closes bs) (sym end) z)))
 
 returns-4 : tie.Need-returns-4
 returns-4 c =

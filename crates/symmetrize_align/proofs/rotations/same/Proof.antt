@@ -1,19 +1,19 @@
 -- `same`: each return has compared the rows before it.
 use mathlib.Core.Path.{sym, ◌∙◌}
 use borrow.Author.Rules.{rules}
-use borrow.Author.Tests.{not_true, not-false}
+use borrow.Author.Tests.{not-true, not-false}
 use Rattle.symmetrize_align.proofs.Same.{first_fails, second_fails, third_left}
 use Rattle.symmetrize_align.proofs.rotations.same.Statement.{statement}
 use Rattle.symmetrize_align.proofs.rotations.same.Tie as tie
 
 returns : tie.Need-returns
-returns c = first_fails _ _ _ (sym c.before.same_row.ensures ∙ not_true _ c.if1.true)
+returns c = first_fails _ _ _ (sym c.before.same_row.ensures ∙ not-true _ c.if1.true)
 
 returns-2 : tie.Need-returns-2
 returns-2 c =
     let first = c.before.before.before.before in
     second_fails _ _ _ (sym first.before.same_row.ensures ∙ not-false _ first.if1.false)
-    (sym c.before.same-row2.ensures ∙ not_true _ c.if2.true)
+    (sym c.before.same-row2.ensures ∙ not-true _ c.if2.true)
 
 returns-3 : tie.Need-returns-3
 returns-3 c =

@@ -5,7 +5,7 @@ use mathlib.Core.Bool.{true, false, not}
 use native.Mathlib.Omega.{arith}
 use lib.ListN.{length}
 use borrow.Author.Rules.{rules}
-use borrow.Author.Tests.{lt-ltb, le-ltb, eq-eqb, ne_eqb, not_true, not-false}
+use borrow.Author.Tests.{lt-ltb, le-ltb, eq-eqb, ne_eqb, not-true, not-false}
 use Rattle.definitions.specs.Limits.{not_some}
 use Rattle.laws.specs.Limits.{few_entries}
 use Rattle.laws.specs.Tests.{not_not}
@@ -19,12 +19,12 @@ returns-2 : tie.Need-returns-2
 returns-2 c =
     let a = c.before.before.before.before.args in
     let none : not_some (length a.rotations.now) ≡ true =
-    not-false _ (sym c.before.is-some-count.ensures ∙ not_true _ c.if2.true) in
+    not-false _ (sym c.before.is-some-count.ensures ∙ not-true _ c.if2.true) in
     rw (le-ltb _ _ c.before.before.if1.false, none)
 
 -- from 1 to 96 operations
 some : (c : tie.Else2) → not_some (length c.before.before.before.before.args.rotations.now) ≡ false
-some c = not_true _ (sym c.before.is-some-count.ensures ∙ not-false _ c.if2.false)
+some c = not-true _ (sym c.before.is-some-count.ensures ∙ not-false _ c.if2.false)
 
 mul-if3 : tie.Need-overflow-mul-if3
 mul-if3 c =

@@ -5,7 +5,7 @@ use mathlib.Core.List.{List}
 use native.Mathlib.Omega.{arith}
 use lib.ListN.{length}
 use borrow.Author.Rules.{rules}
-use borrow.Author.Tests.{lt-ltb, le-ltb, not_true, not-false}
+use borrow.Author.Tests.{lt-ltb, le-ltb, not-true, not-false}
 use Rattle.definitions.specs.declared.Verdict.TheVariants.{Refused}
 use Rattle.definitions.specs.Refusal.{Condition}
 use Rattle.definitions.specs.Calls.{align_conditions}
@@ -64,7 +64,7 @@ module _ (c : tie.Else4) where
   past₄ =
       pass _ 3 (past₃ c.before.before)
       (not_so {b = not_unimodular start₄.args.t}
-      (not_true _ (sym c.before.unimodular.ensures ∙ not-false _ c.if4.false)))
+      (not-true _ (sym c.before.unimodular.ensures ∙ not-false _ c.if4.false)))
 
 -- ---- the returns
 
@@ -88,7 +88,7 @@ unfolding verdict_of found_at_lem HoldsAt
 returns-4 c =
     refuse _ 3 (past₃ c.before.before)
     (so {b = not_unimodular (start₃ c.before.before).args.t}
-    (not-false _ (sym c.before.unimodular.ensures ∙ not_true _ c.if4.true)))
+    (not-false _ (sym c.before.unimodular.ensures ∙ not-true _ c.if4.true)))
     (Refused 7) refl
 
 mul-answer : tie.Need-overflow-mul-answer

@@ -4,7 +4,7 @@ use mathlib.Core.Path.{◌≡◌, sym, ◌∙◌}
 use mathlib.Core.Bool.{true, false}
 use native.Mathlib.Omega.{arith}
 use lib.ListN.{length}
-use borrow.Author.Tests.{lt-ltb, le-ltb, eq-eqb, ne_eqb, not_true, not-false}
+use borrow.Author.Tests.{lt-ltb, le-ltb, eq-eqb, ne_eqb, not-true, not-false}
 use Rattle.definitions.specs.Limits.{not_some}
 use Rattle.laws.specs.Limits.{few_entries}
 use borrow.Author.Rules.{rules}
@@ -16,12 +16,12 @@ returns c = rw (lt-ltb _ _ c.if1.true)
 
 returns-2 : tie.Need-returns-2
 returns-2 c =
-    let few : not_some (length c.before.before.before.before.args.rotations.now) ≡ true = not-false _ (sym c.before.is-some-count.ensures ∙ not_true _ c.if2.true) in
+    let few : not_some (length c.before.before.before.before.args.rotations.now) ≡ true = not-false _ (sym c.before.is-some-count.ensures ∙ not-true _ c.if2.true) in
     rw (le-ltb _ _ c.before.before.if1.false, few)
 
 -- from 1 to 96 targets
 some : (c : tie.Else2) → not_some (length c.before.before.before.before.args.rotations.now) ≡ false
-some c = not_true _ (sym c.before.is-some-count.ensures ∙ not-false _ c.if2.false)
+some c = not-true _ (sym c.before.is-some-count.ensures ∙ not-false _ c.if2.false)
 
 returns-3 : tie.Need-returns-3
 returns-3 c = rw (le-ltb _ _ c.before.before.before.if1.false, some c.before, ne_eqb _ _ c.if3.true)

@@ -2,7 +2,7 @@
 use mathlib.Core.Path.{refl, sym, ap, ◌∙◌}
 use mathlib.Core.Bool.{not}
 use mathlib.Core.List.{List}
-use borrow.Author.Tests.{lt-ltb, le-ltb, not_true, not-false}
+use borrow.Author.Tests.{lt-ltb, le-ltb, not-true, not-false}
 use Rattle.definitions.specs.declared.Verdict.TheVariants.{Refused}
 use Rattle.definitions.specs.Refusal.{Condition}
 use Rattle.definitions.specs.Calls.{symmetrize_conditions}
@@ -58,7 +58,7 @@ module _ (c : tie.Else5) where
 
   past₅ : Passed (conditions start₅) 5
   unfolding HoldsAt
-  past₅ = pass _ 4 (past₄ c.before.before) (not_so {b = not_unimodular start₅.args.t} (not_true _ (sym c.before.unimodular.ensures ∙ not-false _ c.if5.false)))
+  past₅ = pass _ 4 (past₄ c.before.before) (not_so {b = not_unimodular start₅.args.t} (not-true _ (sym c.before.unimodular.ensures ∙ not-false _ c.if5.false)))
 
 -- ---- the returns
 
@@ -80,7 +80,7 @@ returns-4 c = refuse _ 3 (past₃ c.before.before) (so (ap not (sym c.before.all
 
 returns-5 : tie.Need-returns-5
 unfolding verdict_of found_at_lem HoldsAt
-returns-5 c = refuse _ 4 (past₄ c.before.before) (so {b = not_unimodular (start₄ c.before.before).args.t} (not-false _ (sym c.before.unimodular.ensures ∙ not_true _ c.if5.true))) (Refused 7) refl
+returns-5 c = refuse _ 4 (past₄ c.before.before) (so {b = not_unimodular (start₄ c.before.before).args.t} (not-false _ (sym c.before.unimodular.ensures ∙ not-true _ c.if5.true))) (Refused 7) refl
 
 returns-6 : tie.Need-returns-6
 unfolding verdict_of found_at_lem HoldsAt

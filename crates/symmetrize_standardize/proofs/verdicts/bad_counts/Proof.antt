@@ -3,7 +3,7 @@ use Prim.Native.Nat.{◌≤◌}
 use mathlib.Core.Path.{◌≡◌, sym, ap, ◌∙◌}
 use mathlib.Core.Bool.{true, false, not, ◌&&◌, ◌||◌}
 use native.Mathlib.Omega.{arith}
-use borrow.Author.Tests.{lt-ltb, le-ltb, not_true, not-false}
+use borrow.Author.Tests.{lt-ltb, le-ltb, not-true, not-false}
 use Rattle.definitions.specs.Limits.{not_some}
 use Rattle.laws.specs.Tests.{not_either, not_not}
 use Rattle.laws.specs.Limits.{few_entries}
@@ -17,12 +17,12 @@ returns c = rw (lt-ltb _ _ c.if1.true)
 returns-2 : tie.Need-returns-2
 returns-2 c =
     let a = c.before.before.before.args in
-    let few : not_some a.operations ≡ true = not-false _ (sym c.before.is-some-count.ensures ∙ not_true _ c.if2.true) in
+    let few : not_some a.operations ≡ true = not-false _ (sym c.before.is-some-count.ensures ∙ not-true _ c.if2.true) in
     rw (le-ltb _ _ c.before.before.if1.false, few)
 
 -- from 1 to 96 operations
 some : (c : tie.Else2) → not_some c.before.before.before.args.operations ≡ false
-some c = not_true _ (sym c.before.is-some-count.ensures ∙ not-false _ c.if2.false)
+some c = not-true _ (sym c.before.is-some-count.ensures ∙ not-false _ c.if2.false)
 
 -- both tests at once
 both :

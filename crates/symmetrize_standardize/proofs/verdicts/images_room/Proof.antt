@@ -3,7 +3,7 @@ use Prim.Native.Nat.{◌≤◌}
 use mathlib.Core.Path.{◌≡◌, refl, sym, ◌∙◌}
 use mathlib.Core.Bool.{true, false}
 use native.Mathlib.Omega.{arith}
-use borrow.Author.Tests.{lt-ltb, le-ltb, not_true, not-false}
+use borrow.Author.Tests.{lt-ltb, le-ltb, not-true, not-false}
 use Rattle.definitions.specs.Limits.{not_some}
 use Rattle.laws.specs.Limits.{few_entries}
 use Rattle.symmetrize_standardize.proofs.General.{pick_here, pick_next}
@@ -12,14 +12,14 @@ use Rattle.symmetrize_standardize.proofs.verdicts.images_room.Tie as tie
 
 -- from 1 to 96 targets
 some : (c : tie.Else2) → not_some c.before.before.before.args.targets ≡ false
-some c = not_true _ (sym c.before.is-some-count.ensures ∙ not-false _ c.if2.false)
+some c = not-true _ (sym c.before.is-some-count.ensures ∙ not-false _ c.if2.false)
 
 returns : tie.Need-returns
 returns c = pick_here _ _ _ (lt-ltb _ _ c.if1.true)
 
 returns-2 : tie.Need-returns-2
 returns-2 c =
-    let none : not_some c.before.before.before.args.targets ≡ true = not-false _ (sym c.before.is-some-count.ensures ∙ not_true _ c.if2.true) in
+    let none : not_some c.before.before.before.args.targets ≡ true = not-false _ (sym c.before.is-some-count.ensures ∙ not-true _ c.if2.true) in
     pick_next _ _ _ _ (le-ltb _ _ c.before.before.if1.false) (pick_here _ _ _ none)
 
 mul-result : tie.Need-overflow-mul-result

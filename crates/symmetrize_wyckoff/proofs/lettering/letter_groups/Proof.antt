@@ -1,7 +1,7 @@
 -- `letter_groups`: room for the letters, and then what the step says.
 use mathlib.Core.Path.{subst}
 use lib.ListN.{length}
-use borrow.Author.Tests.{lt-ltb, le-ltb, not_true, not-false}
+use borrow.Author.Tests.{lt-ltb, le-ltb, not-true, not-false}
 use Rattle.definitions.specs.SiteCalls.{AssignArguments, Assigned}
 use Rattle.symmetrize_wyckoff.specs.Lettering.{lacks_room, lacks_letter, has_all}
 use borrow.Author.Rules.{rules}
@@ -40,7 +40,7 @@ returns-2 c =
     lacks_letter (le-ltb (length s.args.letters.now) (length s.args.labels.now)
     c.before.before.before.before.before.if1.false)
     (subst (Assigned (given s) s.args.letters.now r.new.1.1.1.1.1.1.1.1.1.1.1.1.0)
-    (not_true r.result c.if2.true)
+    (not-true r.result c.if2.true)
     r.ensures)
 
 returns-3 : tie.Need-returns-3

@@ -3,7 +3,7 @@ use Prim.Native.Nat.{◌≤◌}
 use mathlib.Core.Path.{◌≡◌, sym, ◌∙◌}
 use mathlib.Core.Bool.{true, false}
 use native.Mathlib.Omega.{arith}
-use borrow.Author.Tests.{lt-ltb, le-ltb, not_true, not-false}
+use borrow.Author.Tests.{lt-ltb, le-ltb, not-true, not-false}
 use Rattle.definitions.specs.Limits.{not_some}
 use Rattle.laws.specs.Limits.{few_entries}
 use borrow.Author.Rules.{rules}
@@ -16,12 +16,12 @@ returns c = rw (lt-ltb _ _ c.if1.true)
 returns-2 : tie.Need-returns-2
 returns-2 c =
     let none : not_some c.before.before.before.before.args.count ≡ true =
-    not-false _ (sym c.before.is-some-count.ensures ∙ not_true _ c.if2.true) in
+    not-false _ (sym c.before.is-some-count.ensures ∙ not-true _ c.if2.true) in
     rw (le-ltb _ _ c.before.before.if1.false, none)
 
 -- from 1 to 96 permutations
 some : (c : tie.Else2) → not_some c.before.before.before.before.args.count ≡ false
-some c = not_true _ (sym c.before.is-some-count.ensures ∙ not-false _ c.if2.false)
+some c = not-true _ (sym c.before.is-some-count.ensures ∙ not-false _ c.if2.false)
 
 mul-result : tie.Need-overflow-mul-result
 mul-result c =
