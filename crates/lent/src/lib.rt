@@ -1,6 +1,8 @@
 // Lent lists: "After a refusal all lent output is zero", "and so are output entries past the answer". One function a
 // width: zero from
 // the place n on.
+#![tactic(auto)]
+
 ghost use Rattle.std.specs.Prelude.{◌≡◌, length, take, pos};
 ghost use Rattle.definitions.specs.Refusal.{padded};
 ghost use Rattle.definitions.specs.Lent.{zero_cells, zero_point, zero_matrix};

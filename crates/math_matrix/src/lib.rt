@@ -1,5 +1,7 @@
 // Matrices of whole numbers, three rows of three: widening, determinant, adjugate, inverse, a change of basis.
 // Entries have 16 bits, cofactors 32 and sums 64, so that the types keep every number in range.
+#![tactic(auto)]
+
 ghost use Rattle.std.specs.Prelude.{◌≡◌, ℕ, ◌≤◌, ◌<◌, ℤ, nat_abs, ◌*ℤ◌};
 ghost use Rattle.definitions.specs.Matrix.{at, item, three, minor, unit, mul_m};
 ghost use Rattle.definitions.specs.Matrix.{det as detOf, adjugate as adjugateOf};

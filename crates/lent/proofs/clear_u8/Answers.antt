@@ -1,0 +1,13 @@
+use native.Mathlib.Omega.{arith}
+use lib.ListN.{length, length-set}
+use Rattle.laws.specs.Filling.{Cleared, cleared_none, cleared_more, cleared-all}
+use Rattle.lent.proofs.clear_u8.Goals as goal
+
+pub loop-i-init : goal.loop-i-init
+loop-i-init c = cleared_none 0 c.args.n c.args.out.now
+
+pub loop-i-preserved : goal.loop-i-preserved
+loop-i-preserved c = cleared_more 0 c.before.loop-i.invariant (omega arith)
+
+pub returns : goal.returns
+returns c = cleared-all 0 c.before.loop-i.invariant (omega arith)
