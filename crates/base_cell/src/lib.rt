@@ -1,6 +1,8 @@
 // The orbits of the listed sites (moyo's base/cell.rs, and `orbits_in_cell` and `group_sites_by_orbit` of its
 // symmetrize/wyckoff.rs): the label call and its step; what joined, a label and a multiplicity are, and demand 3, in
 // specs/.
+#![tactic(auto)]
+
 mod labels;
 mod union_find;
 mod verdicts;

@@ -1,5 +1,7 @@
 // moyo's base/permutation.rs over lent lists: the identity, an image, the inverse, the product.
 // Sites are numbered below 256, so a permutation is a list of bytes: entry i is the image of site i.
+#![tactic(auto)]
+
 ghost use Rattle.std.specs.Prelude.{ℕ, ◌≤◌, ◌≡◌, true, List, ◌++◌, map, length, drop};
 ghost use Rattle.definitions.specs.Lists.{all, up_to};
 ghost use Rattle.definitions.specs.Refusal.{Checked};

@@ -1,5 +1,7 @@
 // moyo's base/transformation.rs, its whole-number parts: a rotation in another basis, and the points of the
 // conventional cell, one for each class of whole translations.
+#![tactic(auto)]
+
 pub mod cell;
 
 ghost use Rattle.std.specs.Prelude.{◌≡◌, ◌*◌, ◌/◌, ◌%◌, ◌<◌, ◌≤◌, true, [], ◌∷◌, ◌++◌, map, length, drop, pos};

@@ -1,1 +1,3 @@
 // Theorems on lattice points and listed sites; they stand in specs/.
+
+#![tactic(auto)]

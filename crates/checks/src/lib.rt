@@ -1,4 +1,6 @@
 // Tests of a call's arguments that several calls share: whole numbers, floats, determinants, counts.
+#![tactic(auto)]
+
 ghost use Rattle.std.specs.Prelude.{◌≡◌, not, ◌&&◌, nat_abs};
 ghost use Rattle.std.specs.Float.Ieee.{neg, le};
 ghost use Rattle.definitions.specs.Lists.{all};

@@ -1,4 +1,6 @@
 // moyo's data/centering.rs: the matrix of each centring, from the primitive to the conventional cell.
+#![tactic(auto)]
+
 ghost use Rattle.std.specs.Prelude.{◌≡◌};
 ghost use Rattle.definitions.specs.Centering.{linear as linearOf};
 

@@ -1,4 +1,6 @@
 // The coordinates of a Wyckoff position (moyo's data/wyckoff.rs), from their text to a matrix and an origin.
+#![tactic(auto)]
+
 pub mod space;
 
 ghost use Rattle.std.specs.Prelude.{◌≤◌, ◌≡◌, length, nat_abs, ◌+ℤ◌};
@@ -12,7 +14,7 @@ ghost use Rattle.data_wyckoff.specs.Scan.{row_of, no_row, end_of, term_at};
 use definitions::{Cells, Rotation, Text, Verdict};
 
 // What was read last of a term: nothing, a sign (true: `-`), a sign and a digit, these and a `/`, an item; or no term.
-#[derive(Drop)]
+#[derive(Clone, Copy)]
 enum Last {
     Nothing,
     Sign(bool),
@@ -23,7 +25,7 @@ enum Last {
 }
 
 // A term in part: what was read last, and the sums of the items before it.
-#[derive(Drop)]
+#[derive(Clone, Copy)]
 struct Partial {
     last: Last,
     x: i32,
@@ -33,7 +35,7 @@ struct Partial {
 }
 
 // A whole term: whether it is one, with its coefficients in range, and the place of the comma or the end behind it.
-#[derive(Drop)]
+#[derive(Clone, Copy)]
 struct Row {
     good: bool,
     end: usize,

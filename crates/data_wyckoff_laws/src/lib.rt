@@ -1,1 +1,3 @@
 // Theorems on the reading of coordinates; they stand in specs/.
+
+#![tactic(auto)]

@@ -1,5 +1,7 @@
 // The types that document 01 names, the refusals' numbers and the limits. The definitions about them stand in specs/,
 // in 01's order.
+#![tactic(auto)]
+
 pub mod limits;
 pub mod refusal;
 
@@ -37,7 +39,7 @@ pub type Text = [u8; 64];
 // ---- types of their own
 
 // A position: three fractions of a basis.
-#[derive(Drop)]
+#[derive(Clone, Copy)]
 pub struct Position {
     pub x: f64,
     pub y: f64,
@@ -45,15 +47,15 @@ pub struct Position {
 }
 
 // The number of a primitive site.
-#[derive(Drop)]
+#[derive(Clone, Copy)]
 pub struct PrimSite(pub usize);
 
 // The number of a listed site. A primitive site number is never accepted for one.
-#[derive(Drop)]
+#[derive(Clone, Copy)]
 pub struct ListedSite(pub usize);
 
 // The seven centrings (moyo's data/centering.rs).
-#[derive(Drop)]
+#[derive(Clone, Copy)]
 pub enum Centering {
     P,
     A,
@@ -65,35 +67,35 @@ pub enum Centering {
 }
 
 // A match either fits, with the offset's place and the distance, or misses.
-#[derive(Drop)]
+#[derive(Clone, Copy)]
 pub enum Match {
     Fits(usize, f64),
     Misses,
 }
 
 // What a call says whose answer stands in lent lists: accepted, or refused with one number.
-#[derive(Drop)]
+#[derive(Clone, Copy)]
 pub enum Verdict {
     Accepted,
     Refused(usize),
 }
 
 // What the call that matches one position with one candidate says: a match, or refused with one number.
-#[derive(Drop)]
+#[derive(Clone, Copy)]
 pub enum Matching {
     Answered(Match),
     Refused(usize),
 }
 
 // What the whole call says: accepted, with the numbers of listed sites and of orbits, or refused with one number.
-#[derive(Drop)]
+#[derive(Clone, Copy)]
 pub enum Standardized {
     Accepted(usize, usize),
     Refused(usize),
 }
 
 // How many of each command a job has.
-#[derive(Drop)]
+#[derive(Clone, Copy)]
 pub struct JobCounts {
     pub sites: usize,
     pub operations: usize,
@@ -104,21 +106,21 @@ pub struct JobCounts {
 }
 
 // What the call that reads a job's bytes says: how many of each there are, or refused with one number.
-#[derive(Drop)]
+#[derive(Clone, Copy)]
 pub enum JobRead {
     Read(JobCounts),
     Refused(usize),
 }
 
 // What the image call of a permutation says: the image, or refused with one number.
-#[derive(Drop)]
+#[derive(Clone, Copy)]
 pub enum Image {
     Site(PrimSite),
     Refused(usize),
 }
 
 // How many passes each of the three stages of a diagonalisation has.
-#[derive(Drop)]
+#[derive(Clone, Copy)]
 pub struct Stages {
     pub first: usize,
     pub second: usize,
@@ -127,7 +129,7 @@ pub struct Stages {
 
 // What the call that counts the passes of a diagonalisation says: the passes of each stage; where an assigned entry
 // leaves its range, those begun up to there; or that an entry of the matrix is outside its own.
-#[derive(Drop)]
+#[derive(Clone, Copy)]
 pub enum Passes {
     Counted(Stages),
     Left(Stages),

@@ -1,1 +1,3 @@
 // The worked designs of document 01, computed over the definitions: see specs/.
+
+#![tactic(auto)]

@@ -1,1 +1,3 @@
 // Small whole jobs and matches computed over the definitions; they stand in specs/.
+
+#![tactic(auto)]

@@ -1,5 +1,7 @@
 // The calls under C names, for a program in C or Rust to link: `rt staticlib hoistgarlic`.
 // A slice is a pointer and a length there, an array behind a reference a pointer.
+#![tactic(auto)]
+
 ghost use Rattle.std.specs.Prelude.{◌≡◌};
 ghost use Rattle.definitions.specs.Lent.{position_from};
 ghost use Rattle.definitions.specs.SiteCalls.{LabelPromise, MatchPromise, LetterPromise};

@@ -1,4 +1,6 @@
 // The job's bytes: specs/ proves that they have at most one reading, and `read_job` finds it; `count_job` only counts.
+#![tactic(auto)]
+
 mod fill;
 pub mod layout;
 mod lists;

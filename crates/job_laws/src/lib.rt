@@ -1,1 +1,3 @@
 // Theorems on the bytes of a job; they stand in specs/.
+
+#![tactic(auto)]

@@ -1,4 +1,6 @@
 // The whole call on a job's bytes: they are read into lists of the job's own lengths, and the call on lists answers.
+#![tactic(auto)]
+
 ghost use Rattle.std.specs.Prelude.{◌≡◌, length};
 ghost use Rattle.definitions.specs.WholeCalls.{BytesPromise};
 ghost use Rattle.job.specs.Given.{rooms};

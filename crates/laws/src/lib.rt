@@ -1,1 +1,3 @@
 // Laws about the definitions that several crates cite; they stand in specs/.
+
+#![tactic(auto)]

@@ -1,4 +1,6 @@
 // The norm of a position and the Cholesky factor of a metric tensor.
+#![tactic(auto)]
+
 ghost use Rattle.std.specs.Prelude.{◌≡◌};
 ghost use Rattle.definitions.specs.Real as Real;
 ghost use Rattle.math_factor.specs.Factor.{HandedBack};

@@ -5,7 +5,7 @@ ghost use Rattle.math_round.specs.Cases.{Special, Nearest, Tie, StepOf};
 use crate::pattern::{Magnitude, measured, signed_whole};
 
 // What a step says: the whole number that x is rounded to, or that another step has to say it.
-#[derive(Drop)]
+#[derive(Clone, Copy)]
 pub enum Step {
     Settled(f64),
     Open,

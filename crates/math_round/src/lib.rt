@@ -1,5 +1,7 @@
 // Rounding to a whole number, half away from zero, over every f64: IEEE 754's roundToIntegralTiesToAway, in the order
 // of its text: special values, nearest, then the tie.
+#![tactic(auto)]
+
 pub mod cases;
 pub mod fraction;
 mod pattern;

@@ -16,7 +16,7 @@ const INFINITY: u64 = 0x7FF0000000000000;
 const WHOLE: u64 = 1075;
 
 // a sign, 1 for minus, and a magnitude: whole + rest / one
-#[derive(Drop)]
+#[derive(Clone, Copy)]
 pub(crate) struct Parts {
     pub(crate) sign: u64,
     pub(crate) whole: u64,
@@ -25,7 +25,7 @@ pub(crate) struct Parts {
 }
 
 // A float as rounding reads it: a zero or not finite; a whole number; or by its parts.
-#[derive(Drop)]
+#[derive(Clone, Copy)]
 pub(crate) enum Magnitude {
     Special,
     Whole,

@@ -1,4 +1,6 @@
 // moyo's math/snf.rs: `SNF::new`, the diagonalisation of a matrix of whole numbers; and how many passes it takes.
+#![tactic(auto)]
+
 ghost use Rattle.std.specs.Prelude.{◌≡◌, ◌&&◌, cond, [], ◌∷◌, ◌<◌, ◌≤◌, min, eqb, ◌-ℤ◌, ◌*ℤ◌};
 ghost use Rattle.std.specs.Int.Signed.{quot_z};
 ghost use Rattle.definitions.specs.Lists.{all};
@@ -23,27 +25,27 @@ use math_matrix::widened;
 const NO_KEY: usize = 1000000;
 
 // the place of the pivot, if one is left
-#[derive(Drop)]
+#[derive(Clone, Copy)]
 enum Pivot {
     At(usize, usize),
     Nothing,
 }
 
 // a pass: its grade, and 1 if a pivot was left to choose
-#[derive(Drop)]
+#[derive(Clone, Copy)]
 struct Turn {
     grade: usize,
     passes: usize,
 }
 
 // the end of a stage, and of a run: whether every assigned entry is in range, and the passes begun
-#[derive(Drop)]
+#[derive(Clone, Copy)]
 struct StageEnd {
     small: bool,
     passes: usize,
 }
 
-#[derive(Drop)]
+#[derive(Clone, Copy)]
 struct RunEnd {
     small: bool,
     passes: Stages,

@@ -56,6 +56,7 @@ behind : {s j : ℕ} → In s s → In (suc s) j → Behind s j
 behind i00 i11 = b01
 behind i00 i12 = b02
 behind i11 i22 = b12
+behind {j = j} i22 x4 = elim x4 [ ]
 
 below : {i s : ℕ} → i < suc s → (i < s) ⊎ (i ≡ s)
 below {i} {s} l = go (ltb i s) refl

@@ -1,1 +1,3 @@
 // Theorems on the diagonalising run; they stand in specs/.
+
+#![tactic(auto)]

@@ -1,12 +1,14 @@
 // The square root of a float, correctly rounded, by whole numbers: half of its digits guessed and tried, the others by
 // a division.
 // Where the guess fails, one binary digit of the root a step.
+#![tactic(auto)]
+
 ghost use Rattle.std.specs.Prelude.{◌≡◌, ◌+◌, ◌*◌, ◌≤◌, ◌<◌, ◌^◌};
 ghost use Rattle.definitions.specs.Real.{IsSqrt, root_cut, root_pattern, root_of_fields, sqrt as sqrtF};
 ghost use Rattle.math_sqrt.specs.Root.{IsRoot, Cut};
 
 // the root of the digits so far, cut, and what is left
-#[derive(Drop)]
+#[derive(Clone, Copy)]
 struct Root {
     q: u64,
     rem: u64,

@@ -1,5 +1,7 @@
 // The report program: a job's bytes on standard input, its report on standard output. Only the reading and the writing
 // are trusted.
+#![tactic(auto)]
+
 ghost use Rattle.std.specs.Prelude.{◌≡◌, length, take};
 ghost use Rattle.definitions.specs.WholeCalls.{ReportPromise};
 ghost use Rattle.io.specs.Counts.{IsPrefixLen};

@@ -1,4 +1,6 @@
 // The report's text into lent bytes, as much of it as there is room for.
+#![tactic(auto)]
+
 mod bytes;
 mod lines;
 

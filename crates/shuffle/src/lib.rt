@@ -1,4 +1,6 @@
 // Request M-101 of document 02: a permutation made by rules from a seed, for tests with large lists. moyo has none.
+#![tactic(auto)]
+
 ghost use Rattle.std.specs.Prelude.{◌≡◌, ◌-◌, ◌*◌, ◌%◌, ◌^◌, ◌<◌, length};
 ghost use Rattle.definitions.specs.Shuffle.{swap, swap_down};
 ghost use Rattle.definitions.specs.Shuffle as rules;

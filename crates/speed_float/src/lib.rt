@@ -1,4 +1,6 @@
 // Rounding and the square root under names that Rust can link, to measure them.
+#![tactic(auto)]
+
 ghost use Rattle.std.specs.Prelude.{◌≡◌};
 ghost use Rattle.definitions.specs.Real.{round_away, sqrt as sqrtF};
 

@@ -1,5 +1,7 @@
 // moyo's `align_primitive_permutations` of symmetrize/standardize.rs over lent lists: the permutations of the
 // operations, one for each target, by the transformed rotations.
+#![tactic(auto)]
+
 mod rotations;
 mod targets;
 mod verdicts;

@@ -1,5 +1,7 @@
 // The lattice symmetrised under the conventional rotations (moyo's `symmetrize_lattice` of
 // symmetrize/symmetrization.rs), with the lattice's part of base/transformation.rs.
+#![tactic(auto)]
+
 ghost use Rattle.std.specs.Prelude.{◌≤◌, ◌≡◌, not, cond, ◌||◌, length};
 ghost use Rattle.definitions.specs.Lists.{all};
 ghost use Rattle.definitions.specs.Refusal.{Checked};

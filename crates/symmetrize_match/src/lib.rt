@@ -1,4 +1,6 @@
 // moyo's symmetrize/wyckoff.rs, its `match_wyckoff_coordinates`: the match of a position with a candidate.
+#![tactic(auto)]
+
 mod bound;
 mod fit;
 mod inner;

@@ -1,5 +1,7 @@
 // moyo's `symmetrize_positions` of symmetrize/symmetrization.rs over lent lists, and the float part of
 // `UnimodularTransformation::transform_cell` before it.
+#![tactic(auto)]
+
 mod site;
 mod targets;
 mod transform;

@@ -1,5 +1,7 @@
 // moyo's symmetrize/standardize.rs: the whole call on a job's lists, `standardize_and_symmetrize_cell` and then
 // `assign_wyckoffs_by_orbit`.
+#![tactic(auto)]
+
 mod cell;
 mod orbits;
 mod verdicts;

@@ -1,1 +1,3 @@
 // Theorems on the promise of the whole call; they stand in specs/.
+
+#![tactic(auto)]

@@ -1,4 +1,6 @@
 // moyo's symmetrize/wyckoff.rs above its match: the letters of orbits.
+#![tactic(auto)]
+
 mod find;
 mod guard;
 mod lettering;

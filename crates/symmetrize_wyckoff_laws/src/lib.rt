@@ -1,1 +1,3 @@
 // Theorems on the letters of orbits; they stand in specs/.
+
+#![tactic(auto)]

@@ -48,6 +48,8 @@
 //                                                 translations; long list of images; of targets as of operations;
 //                                                 list of matrices; candidates and symprec as in w; rooms as in J
 //   b    job::read_job                            long list of bytes; rooms of the lists of j
+#![tactic(auto)]
+
 mod align;
 mod cell;
 mod centering;

@@ -1,0 +1,27 @@
+-- `base_permutation::product` meets its contract: the verdict is `product_verdict`'s, and past what is written the list
+-- is cleared.
+use lib.ListN.{length, length-map}
+use Rattle.definitions.specs.Permutation.{image, after}
+use Rattle.base_permutation.proofs.Accepted.{product_facts}
+use Rattle.laws.specs.Filling.{padded_by}
+use Rattle.base_permutation.proofs.product.Goals as goal
+
+pub put_product-requires : goal.put_product-requires
+put_product-requires c =
+    let a = c.args in
+    product_facts a.p.now a.q.now (length a.out.now) (rw c.in-Accepted.is at c.product_verdict-v.ensures)
+
+pub returns-in-Accepted : goal.returns-in-Accepted
+returns-in-Accepted c =
+    let a = c.args in
+    let v = c.product_verdict-v in
+    let told = c.in-Accepted.is in
+    let room = (product_facts a.p.now a.q.now (length a.out.now) (rw told at v.ensures)).3 in (
+      v.ensures,
+      rw told
+          (padded_by 0 (after a.p.now a.q.now) a.out.now c.clear_u8.new.out c.put_product.new.out (length a.q.now) (length-map a.q.now (image a.p.now)) room c.put_product.ensures c.clear_u8.ensures),
+    )
+
+pub returns-in-Refused : goal.returns-in-Refused
+returns-in-Refused c =
+    (c.product_verdict-v.ensures, rw c.in-Refused.is c.clear_u8-in-Refused.ensures)

@@ -1,0 +1,15 @@
+-- `clear_snf`: before the place i the list is as it is to be, and from i on as it was.
+use Prim.Native.Nat.{◌-◌}
+use native.Mathlib.Omega.{arith}
+use Rattle.definitions.specs.Lent.{zero_matrix}
+use Rattle.laws.specs.Filling.{cleared_none, cleared_more, cleared-all}
+use Rattle.lent.proofs.clear_snf.Goals as goal
+
+pub loop-i-init : goal.loop-i-init
+loop-i-init c = cleared_none zero_matrix c.args.n c.args.out.now
+
+pub loop-i-preserved : goal.loop-i-preserved
+loop-i-preserved c = cleared_more zero_matrix c.loop-i.invariant (omega arith)
+
+pub returns : goal.returns
+returns c = cleared-all zero_matrix c.loop-i.invariant (omega arith)
