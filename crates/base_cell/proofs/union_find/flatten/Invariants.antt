@@ -1,0 +1,13 @@
+use Prim.Native.Nat.{ℕ, ◌-◌, ◌≤◌, ◌<◌}
+use mathlib.Core.Path.{◌≡◌}
+use lib.ListN.{length, get_or}
+use Rattle.base_cell.specs.Trees.{root}
+use Rattle.base_cell.proofs.union_find.flatten.Given as goal
+
+abbrev pub invariant-loop-i : goal.invariant-loop-i
+invariant-loop-i l =
+    (l.i ≤ 256) × (length l.parent ≡ 256) × ((k : ℕ) → k < l.i → get_or l.parent k 0 ≡ root l.initial.parent k)
+    × ((k : ℕ) → l.i ≤ k → get_or l.parent k 0 ≡ get_or l.initial.parent k 0)
+
+abbrev pub decreases-loop-i : goal.decreases-loop-i
+decreases-loop-i l = 256 - l.i
