@@ -17,8 +17,7 @@ group_sites_by_orbit-requires c = c.requires c.if-can.true
 
 pub returns-then-can : goal.returns-then-can
 returns-then-can c =
-    let u = c in
-    let can = u.if1.true in
+    let can = c.if-can.true in
     let first = c.clear_u16 in
     let second = c.clear_u16-then-can in
     let z : LabelCells = record { labels = first.new.out; multiplicities = second.new.out } in

@@ -46,12 +46,10 @@ module _ (g : RealMatrix) (l00 l11 l22 : Float) (e0 : l00 ≡ sqrt (at_f g 0 0))
 
 pub returns-then-above0-above1 : goal.returns-then-above0-above1
 returns-then-above0-above1 c =
-    let s2 = c in
-    there c.args.g c.sqrt-l00.result s2.sqrt2.result c.sqrt-l22.result c.sqrt-l00.ensures.value s2.sqrt2.ensures.0
+    there c.args.g c.sqrt-l00.result c.sqrt-l11.result c.sqrt-l22.result c.sqrt-l00.ensures.value c.sqrt-l11.ensures.value
     c.sqrt-l22.ensures.value c.if-above0-above1.true
 
 pub returns : goal.returns
 returns c =
-    let s2 = c in
-    missing c.args.g c.sqrt-l00.result s2.sqrt2.result c.sqrt-l22.result c.sqrt-l00.ensures.value s2.sqrt2.ensures.0
+    missing c.args.g c.sqrt-l00.result c.sqrt-l11.result c.sqrt-l22.result c.sqrt-l00.ensures.value c.sqrt-l11.ensures.value
     c.sqrt-l22.ensures.value c.if-above0-above1.false

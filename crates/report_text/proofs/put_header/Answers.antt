@@ -4,11 +4,10 @@ use Rattle.report_text.proofs.put_header.Goals as goal
 
 pub returns : goal.returns
 returns c =
-    let first = c in
-    let word = first.put-bytes in
+    let word = c.put_bytes-a in
     let second = c.put_bytes-c in
     puts_more
     (puts_more
-    (puts_more (puts_more word.ensures first.put-decimal.ensures) second.ensures)
+    (puts_more (puts_more word.ensures c.put_decimal-b.ensures) second.ensures)
     c.put_decimal-d.ensures)
     c.put_byte.ensures

@@ -4,5 +4,4 @@ use Rattle.report_text.proofs.put_refusal.Goals as goal
 
 pub returns : goal.returns
 returns c =
-    let number = c in
-    puts_more (puts_more c.put_bytes-named.ensures number.put-decimal.ensures) c.put_byte.ensures
+    puts_more (puts_more c.put_bytes-named.ensures c.put_decimal-told.ensures) c.put_byte.ensures

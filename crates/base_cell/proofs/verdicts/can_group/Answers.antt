@@ -30,7 +30,7 @@ module _ (s : Start) where
 -- ---- past the first two
 
 abbrev start : Else-bad_mapping → Start
-start c = c.before.before.before.before.before.before
+start c = (goal.at.Else-bad_mapping c).Start
 
 counted : (c : Else-bad_mapping) → counts (start c) ≡ false
 counted c = sym c.bad_counts.ensures ∙ c.if-bad_counts.false

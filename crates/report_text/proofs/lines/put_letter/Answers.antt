@@ -4,5 +4,4 @@ use Rattle.report_text.proofs.lines.put_letter.Goals as goal
 
 pub returns : goal.returns
 returns c =
-    let letter = c in
-    puts_more c.put_byte-a.ensures (puts_more letter.put-byte2.ensures c.put_byte.ensures)
+    puts_more c.put_byte-a.ensures (puts_more c.put_byte-b.ensures c.put_byte.ensures)

@@ -15,10 +15,7 @@ shown s =
 
 pub returns : goal.returns
 returns c =
-    let third = c in
-    let first = c in
-    let s = c in
-    puts_line (shown (goal.at.returns s).Start) s.args.j first.entry.ensures c.entry-2.ensures
-    third.entry3.ensures c.byte_entry.ensures
-    c.put_decimal-a.ensures first.put-field.ensures c.put_field-c.ensures third.put-field3.ensures
+    puts_line (shown (goal.at.returns c).Start) c.args.j c.entry.ensures c.entry-2.ensures
+    c.entry-3.ensures c.byte_entry.ensures
+    c.put_decimal-a.ensures c.put_field-b.ensures c.put_field-c.ensures c.put_field-d.ensures
     c.put_letter.ensures

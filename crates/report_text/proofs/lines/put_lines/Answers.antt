@@ -5,7 +5,6 @@ use native.Mathlib.Omega.{arith}
 use Rattle.definitions.specs.WholeCalls.{Shown}
 use Rattle.report_text.specs.Putting.{Puts}
 use Rattle.report_text.specs.Text.{lines_text}
-use Rattle.report_text.proofs.Putting.{puts_length}
 use Rattle.report_text.proofs.Text.{lines_none, lines_more}
 use Rattle.report_text.proofs.lines.put_lines.Goals as goal
 use Rattle.report_text.proofs.lines.put_lines.Goals.{Start}
@@ -25,12 +24,8 @@ loop-j-init c =
 
 pub loop-j-preserved : goal.loop-j-preserved
 loop-j-preserved c =
-    let s = c in
     let l = c.loop-j in
-    (omega arith, lines_more (shown (goal.at.loop-j-preserved s).Start) l.j l.invariant.1 c.put_line-next.ensures)
-
-pub shape_of-out : goal.shape_of-out
-shape_of-out c = puts_length c.loop-j.invariant.1
+    (omega arith, lines_more (shown (goal.at.loop-j-preserved c).Start) l.j l.invariant.1 c.put_line-next.ensures)
 
 pub returns : goal.returns
 returns c =

@@ -1,0 +1,41 @@
+-- The first i cells are those of the first i commands.
+use Prim.Native.Nat.{◌-◌, ◌≤◌, ◌<◌}
+use mathlib.Core.Path.{◌∙◌}
+use native.Mathlib.Omega.{arith}
+use Rattle.job.specs.Places.{word_at}
+use Rattle.job.proofs.Putting.{putting_none, putting_room, putting_more, putting_all}
+use Rattle.job.proofs.Words.{word2_is}
+use Rattle.job.proofs.lists.put_numbers.Goals as goal
+
+pub loop-i-init : goal.loop-i-init
+loop-i-init c =
+    let a = c.args in
+    putting_none 0 (word_at 2 a.bytes.now) a.width a.at a.n a.out.now
+
+pub number_at-requires : goal.number_at-requires
+number_at-requires c =
+    let a = c.args in
+    let l = c.loop-i in
+    let h : l.i < a.n = omega arith in
+    omega (arith, putting_room 0 (word_at 2 a.bytes.now) a.width a.at a.n l.invariant h)
+
+pub overflow_add-place : goal.overflow_add-place
+overflow_add-place c =
+    let a = c.args in
+    let l = c.loop-i in
+    let h : l.i < a.n = omega arith in
+    omega (arith, putting_room 0 (word_at 2 a.bytes.now) a.width a.at a.n l.invariant h)
+
+pub loop-i-preserved : goal.loop-i-preserved
+loop-i-preserved c =
+    let a = c.args in
+    let l = c.loop-i in
+    let h : l.i < a.n = omega arith in
+    putting_more 0 (word_at 2 a.bytes.now) a.width a.at a.n l.invariant h c.requires.2 _ (c.number_at.ensures ∙ word2_is a.bytes.now l.place)
+
+pub returns : goal.returns
+returns c =
+    let a = c.args in
+    let l = c.loop-i in
+    let h : a.n ≤ l.i = omega (arith, c.loop-i-test.false) in
+    putting_all 0 (word_at 2 a.bytes.now) a.width a.at a.n l.invariant h c.requires.2 _ c.clear_u16.ensures

@@ -1,0 +1,27 @@
+-- `copy`: the first i cells are the list's.
+use Prim.Native.Nat.{◌-◌}
+use mathlib.Core.Path.{refl, ◌∙◌}
+use mathlib.Core.List.{append-nil}
+use native.Mathlib.Omega.{arith}
+use lib.ListN.{length, length-set, drop_of_length-le}
+use Rattle.laws.specs.Filling.{put_step, put_end}
+use Rattle.symmetrize_align.proofs.targets.copy.Goals as goal
+
+pub loop-i-init : goal.loop-i-init
+loop-i-init c = (omega arith, refl, refl)
+
+pub loop-i-preserved : goal.loop-i-preserved
+loop-i-preserved c =
+    let l = c.loop-i in
+    let a = c.args in (
+      omega arith,
+      simp length-set l.invariant.1,
+      put_step 0 a.p.now a.out.now l.out l.i _ l.invariant.2 (omega arith) (omega arith) refl,
+    )
+
+pub returns : goal.returns
+returns c =
+    let l = c.loop-i in
+    let p = c.args.p.now in
+    put_end 0 p c.args.out.now l.out l.i (length p) l.invariant.2 refl (omega arith)
+    ∙ rw (drop_of_length-le c.args.out.now {i = length p} (omega (arith, c.requires))) (append-nil p)

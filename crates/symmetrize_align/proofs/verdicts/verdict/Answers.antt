@@ -1,0 +1,105 @@
+-- `verdict`: each return has tested what comes before it.
+use mathlib.Core.Path.{◌≡◌, refl, sym, ap, ◌∙◌}
+use mathlib.Core.Bool.{false, not, ◌||◌}
+use mathlib.Core.List.{List}
+use native.Mathlib.Omega.{arith}
+use lib.ListN.{length}
+use borrow.Author.Tests.{lt-ltb, le-ltb, not-true, not-false}
+use Rattle.definitions.specs.declared.Verdict.TheVariants.{Refused}
+use Rattle.definitions.specs.Refusal.{Condition}
+use Rattle.definitions.specs.Calls.{align_conditions}
+use Rattle.definitions.specs.Lent.{bad_permutation_counts}
+use Rattle.definitions.specs.Limits.{not_some, not_unimodular}
+use Rattle.laws.specs.Tests.{so, not_so}
+use Rattle.laws.specs.Verdicts.{HoldsAt, Passed, pass, found_at_lem, refuse, verdict_of}
+use Rattle.symmetrize_align.proofs.Accepted.{answer_small}
+use Rattle.symmetrize_align.proofs.verdicts.verdict.Goals as goal
+use Rattle.symmetrize_align.proofs.verdicts.verdict.Goals.{Else-bad_counts, Else-bad_entries, Else-not-all_permutations, Else-not-unimodular, Start}
+
+abbrev conditions : Start → List Condition
+conditions s =
+    let a = s.args in
+    align_conditions a.t a.rotations.now a.images.now a.sites a.targets.now a.room
+
+-- ---- past each test
+
+module _ (c : Else-bad_counts) where
+  abbrev start₁ : Start
+  start₁ = c.before.before.before
+
+  good_counts :
+      let a = start₁.args in
+      (bad_permutation_counts a.sites (length a.rotations.now) a.images.now
+      || not_some (length a.targets.now)) ≡ false
+  good_counts = sym c.bad_counts.ensures ∙ c.if-bad_counts.false
+
+  past₁ : Passed (conditions start₁) 1
+  unfolding Passed HoldsAt
+  past₁ = (not_so good_counts, tt)
+
+module _ (c : Else-bad_entries) where
+  abbrev start₂ : Start
+  start₂ = start₁ (goal.at.Else-bad_entries c).Else-bad_counts
+
+  past₂ : Passed (conditions start₂) 2
+  unfolding HoldsAt
+  past₂ = pass _ 1 (past₁ (goal.at.Else-bad_entries c).Else-bad_counts) (not_so (sym c.bad_entries.ensures ∙ c.if-bad_entries.false))
+
+module _ (c : Else-not-all_permutations) where
+  abbrev start₃ : Start
+  start₃ = start₂ (goal.at.Else-not-all_permutations c).Else-bad_entries
+
+  past₃ : Passed (conditions start₃) 3
+  unfolding HoldsAt
+  past₃ =
+      pass _ 2 (past₂ (goal.at.Else-not-all_permutations c).Else-bad_entries) (not_so (ap not (sym c.all_permutations.ensures) ∙ (ap not c.if-not-all_permutations.false)))
+
+module _ (c : Else-not-unimodular) where
+  abbrev start₄ : Start
+  start₄ = start₃ (goal.at.Else-not-unimodular c).Else-not-all_permutations
+
+  past₄ : Passed (conditions start₄) 4
+  unfolding HoldsAt
+  past₄ =
+      pass _ 3 (past₃ (goal.at.Else-not-unimodular c).Else-not-all_permutations)
+      (not_so {b = not_unimodular start₄.args.t}
+      (not-true _ (sym c.unimodular.ensures ∙ c.if-not-unimodular.false)))
+
+-- ---- the returns-then-bad_counts
+
+pub returns-then-bad_counts : goal.returns-then-bad_counts
+unfolding verdict_of found_at_lem Passed HoldsAt
+returns-then-bad_counts c = refuse _ 0 tt (so (sym c.bad_counts.ensures ∙ c.if-bad_counts.true)) (Refused 2) refl
+
+pub returns-then-bad_entries : goal.returns-then-bad_entries
+unfolding verdict_of found_at_lem HoldsAt
+returns-then-bad_entries c =
+    refuse _ 1 (past₁ (goal.at.returns-then-bad_entries c).Else-bad_counts) (so (sym c.bad_entries.ensures ∙ c.if-bad_entries.true)) (Refused 3) refl
+
+pub returns-then-not-all_permutations : goal.returns-then-not-all_permutations
+unfolding verdict_of found_at_lem HoldsAt
+returns-then-not-all_permutations c =
+    refuse _ 2 (past₂ (goal.at.returns-then-not-all_permutations c).Else-bad_entries) (so (ap not (sym c.all_permutations.ensures) ∙ (ap not c.if-not-all_permutations.true)))
+    (Refused 5) refl
+
+pub returns-then-not-unimodular : goal.returns-then-not-unimodular
+unfolding verdict_of found_at_lem HoldsAt
+returns-then-not-unimodular c =
+    refuse _ 3 (past₃ (goal.at.returns-then-not-unimodular c).Else-not-all_permutations)
+    (so {b = not_unimodular (start₃ (goal.at.returns-then-not-unimodular c).Else-not-all_permutations).args.t}
+    (not-false _ (sym c.unimodular.ensures ∙ c.if-not-unimodular.true)))
+    (Refused 7) refl
+
+pub overflow_mul-answer : goal.overflow_mul-answer
+overflow_mul-answer c =
+    let a = (start₁ (goal.at.overflow_mul-answer c).Else-bad_counts).args in
+    let k = length a.rotations.now in
+    omega (arith, answer_small a.sites k a.images.now (length a.targets.now) (good_counts (goal.at.overflow_mul-answer c).Else-bad_counts))
+
+pub returns-then-room-answer : goal.returns-then-room-answer
+unfolding verdict_of found_at_lem HoldsAt
+returns-then-room-answer c = refuse _ 4 (past₄ (goal.at.returns-then-room-answer c).Else-not-unimodular) (so (lt-ltb _ _ c.if-room-answer.true)) (Refused 10) refl
+
+pub returns : goal.returns
+unfolding HoldsAt
+returns c = pass (conditions (start₄ (goal.at.returns c).Else-not-unimodular)) 4 (past₄ (goal.at.returns c).Else-not-unimodular) (not_so (le-ltb _ _ c.if-room-answer.false))
