@@ -5,6 +5,7 @@ use Rattle.definitions.specs.SiteCalls.{LabelArguments, LabelCells}
 use Rattle.base_cell.specs.Grouping.{LabelsLeft}
 use Rattle.base_cell.proofs.Accepted.{accepts, facts, kept}
 use Rattle.base_cell.proofs.label_sites.Goals as goal
+use Rattle.base_cell.proofs.label_sites.Goals.{in-Accepted, in-Refused}
 use Rattle.base_cell.proofs.label_sites.Goals.{After-put_orbits-arg-2-1, Start}
 
 abbrev given : Start → LabelArguments
@@ -14,9 +15,11 @@ abbrev lent : Start → LabelCells
 lent s = record { labels = s.args.labels.now; multiplicities = s.args.multiplicities.now }
 
 -- where the arms meet
-can_is : (c : After-put_orbits-arg-2-1) → c.in-Accepted.can ≡ accepts c.label_verdict-v.result
+can_is : (c : After-put_orbits-arg-2-1) → c.match-v.can ≡ accepts c.label_verdict-v.result
 can_is c =
-    ⊎_elim (λ w. w.2 ∙ ap accepts (sym w.1.given.1)) (λ w. w.2 ∙ ap accepts (sym w.1.given.1)) c.in-Accepted.branch
+    elim c.match-v.branch [
+      in-Accepted w ↦ w.can-is ∙ ap accepts (sym w.in-Accepted.is)
+    | in-Refused w ↦ w.can-is ∙ ap accepts (sym w.in-Refused.is) ]
 
 pub put_orbits-requires : goal.put_orbits-requires
 put_orbits-requires c =

@@ -25,7 +25,7 @@ conditions s =
 
 module _ (c : Else-bad_counts) where
   abbrev start₁ : Start
-  start₁ = c.before.before.before.before
+  start₁ = (goal.at.Else-bad_counts c).Start
 
   past₁ : Passed (conditions start₁) 1
   unfolding Passed HoldsAt
@@ -47,7 +47,7 @@ module _ (c : Else-mapping-gt-MOST_LISTED) where
   unfolding HoldsAt
   past₃ = pass _ 2 (past₂ (goal.at.Else-mapping-gt-MOST_LISTED c).Else-bad_sites) (not_so (le-ltb _ _ c.if-mapping-gt-MOST_LISTED.false))
 
--- ---- the returns-then-bad_counts
+-- ---- the returns
 
 pub returns-then-bad_counts : goal.returns-then-bad_counts
 unfolding verdict_of found_at_lem Passed HoldsAt

@@ -41,10 +41,10 @@ returns-then-moved-k c =
 
 module _ (c : Else-moved-k) where
   abbrev start : Start
-  start = c.before.before.before.before.before.before.before
+  start = (goal.at.Else-moved-k c).Start
 
   abbrev turn : At-loop-i
-  turn = c.before.before.before.before
+  turn = (goal.at.Else-moved-k c).At-loop-i
 
   abbrev k : ℕ
   k = c.last_place-k.result
@@ -53,19 +53,19 @@ module _ (c : Else-moved-k) where
   from_fits : k * start.args.n + start.args.n ≤ length start.args.images.now
   from_fits =
       let a = start.args in
-      part_room k (length a.moved.now) a.n (length a.images.now) c.if-moved-k.false start.pre.0
+      part_room k (length a.moved.now) a.n (length a.images.now) c.if-moved-k.false start.requires.0
 
-  end_fits : turn.loop.at + start.args.n ≤ length turn.loop.out
+  end_fits : turn.loop-i.at + start.args.n ≤ length turn.loop-i.out
   end_fits =
-      let l = turn.loop in
+      let l = turn.loop-i in
       let m = length start.args.targets.now in
       let n = start.args.n in
-      omega (arith, start.pre.1, l.inv.1, l.inv.2, part_room l.i m n (m * n) (omega arith) refl)
+      omega (arith, start.requires.1, l.invariant.1, l.invariant.2, part_room l.i m n (m * n) (omega arith) refl)
 
-  place : last_of start.args.moved.now (get_or start.args.targets.now turn.loop.i []) ≡ some k
+  place : last_of start.args.moved.now (get_or start.args.targets.now turn.loop-i.i []) ≡ some k
   place =
       let a = start.args in
-      let g = get_or a.targets.now turn.loop.i [] in
+      let g = get_or a.targets.now turn.loop-i.i [] in
       found a.moved.now g k c.last_place-k.ensures c.if-moved-k.false
 
 pub overflow_mul-from : goal.overflow_mul-from
@@ -87,23 +87,23 @@ pub copy-requires : goal.copy-requires
 copy-requires c =
     let a = (start (goal.at.copy-requires c).Else-moved-k).args in
     part_long a.images.now a.n (k (goal.at.copy-requires c).Else-moved-k * a.n) (from_fits (goal.at.copy-requires c).Else-moved-k)
-    ∙ sym (part_long (turn (goal.at.copy-requires c).Else-moved-k).loop.out a.n (turn (goal.at.copy-requires c).Else-moved-k).loop.at (end_fits (goal.at.copy-requires c).Else-moved-k))
+    ∙ sym (part_long (turn (goal.at.copy-requires c).Else-moved-k).loop-i.out a.n (turn (goal.at.copy-requires c).Else-moved-k).loop-i.at (end_fits (goal.at.copy-requires c).Else-moved-k))
 
 pub loop-i-preserved : goal.loop-i-preserved
 loop-i-preserved c =
     let a = (start (goal.at.loop-i-preserved c).Else-moved-k).args in
-    let l = (turn (goal.at.loop-i-preserved c).Else-moved-k).loop in
+    let l = (turn (goal.at.loop-i-preserved c).Else-moved-k).loop-i in
     let from = k (goal.at.loop-i-preserved c).Else-moved-k * a.n in
     let f = aligned_by a.moved.now a.images.now a.n in
     let copied = c.copy in
     let lost : Matrix → Bool = λ g. is_none (last_of a.moved.now g) in (
       omega arith,
-      same_len_mid l.at (l.at + a.n - l.at) l.out copied.new.out copied.auto.out ∙ l.inv.1,
-      next_part l.i l.at a.n l.inv.2,
-      front_more f a.targets.now [] a.out.now l.inv.3 (omega arith) copied.new.out
+      same_len_mid l.at (l.at + a.n - l.at) l.out copied.new.out copied.auto.out ∙ l.invariant.1,
+      next_part l.i l.at a.n l.invariant.2,
+      front_more f a.targets.now [] a.out.now l.invariant.3 (omega arith) copied.new.out
           (copied.ensures ∙ part_is a.images.now a.n (k (goal.at.loop-i-preserved c).Else-moved-k) from refl _ (place (goal.at.loop-i-preserved c).Else-moved-k))
           (ap length copied.ensures ∙ part_long a.images.now a.n from (from_fits (goal.at.loop-i-preserved c).Else-moved-k)),
-      sym (any_later lost [] a.targets.now l.i (omega arith) (ap is_none (place (goal.at.loop-i-preserved c).Else-moved-k))) ∙ l.inv.4,
+      sym (any_later lost [] a.targets.now l.i (omega arith) (ap is_none (place (goal.at.loop-i-preserved c).Else-moved-k))) ∙ l.invariant.4,
     )
 
 pub returns : goal.returns

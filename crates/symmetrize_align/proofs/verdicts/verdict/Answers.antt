@@ -25,7 +25,7 @@ conditions s =
 
 module _ (c : Else-bad_counts) where
   abbrev start₁ : Start
-  start₁ = c.before.before.before
+  start₁ = (goal.at.Else-bad_counts c).Start
 
   good_counts :
       let a = start₁.args in
@@ -65,7 +65,7 @@ module _ (c : Else-not-unimodular) where
       (not_so {b = not_unimodular start₄.args.t}
       (not-true _ (sym c.unimodular.ensures ∙ c.if-not-unimodular.false)))
 
--- ---- the returns-then-bad_counts
+-- ---- the returns
 
 pub returns-then-bad_counts : goal.returns-then-bad_counts
 unfolding verdict_of found_at_lem Passed HoldsAt

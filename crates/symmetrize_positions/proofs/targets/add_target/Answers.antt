@@ -18,10 +18,9 @@ turns s = permuted (length s.args.positions.now) s.args.images.now s.requires.1
 -- an image is a site
 below : (w : After-wide-i) → w.wide-i.result < length w.args.positions.now
 below w =
-    let s = w.before.before.before.before.before in
     let l = w.loop-j in
-    let k : l.j < length s.args.positions.now = omega arith in
-    omega (arith, w.wide-i.ensures, (turns (goal.at.After-wide-i s).Start).below l.j k)
+    let k : l.j < length w.args.positions.now = omega arith in
+    omega (arith, w.wide-i.ensures, (turns (goal.at.After-wide-i w).Start).below l.j k)
 
 in_list : (w : After-wide-i) → w.wide-i.result < length w.loop-j.out
 in_list w = omega (arith, below w)

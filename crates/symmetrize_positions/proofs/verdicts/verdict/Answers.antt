@@ -21,7 +21,7 @@ conditions s =
 
 module _ (c : Else-bad_counts) where
   abbrev start₁ : Start
-  start₁ = c.before.before.before
+  start₁ = (goal.at.Else-bad_counts c).Start
 
   past₁ : Passed (conditions start₁) 1
   unfolding Passed HoldsAt
@@ -59,7 +59,7 @@ module _ (c : Else-not-unimodular) where
   unfolding HoldsAt
   past₅ = pass _ 4 (past₄ (goal.at.Else-not-unimodular c).Else-not-all_permutations) (not_so {b = not_unimodular start₅.args.t} (not-true _ (sym c.unimodular.ensures ∙ c.if-not-unimodular.false)))
 
--- ---- the returns-then-bad_counts
+-- ---- the returns
 
 pub returns-then-bad_counts : goal.returns-then-bad_counts
 unfolding verdict_of found_at_lem Passed HoldsAt
