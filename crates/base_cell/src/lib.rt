@@ -29,8 +29,8 @@ fn put_orbits(
     requires { can ≡ true → Groupable sites count images.now mapping.now labels.old multiplicities.old }
     ensures { LabelsLeft
         (record { sites = sites; count = count; images = images.now; mapping = mapping.now })
-        (record { labels = labels.entry.now; multiplicities = multiplicities.old })
-        (record { labels = labels.exit.now; multiplicities = multiplicities.new }) can }
+        (record { labels = labels.old; multiplicities = multiplicities.old })
+        (record { labels = labels.new; multiplicities = multiplicities.new }) can }
 {
     if can {
         group_sites_by_orbit(sites, count, images, mapping, labels, multiplicities);
@@ -53,8 +53,8 @@ pub fn label_sites(
 ) -> Verdict
     ensures { LabelPromise
         (record { sites = sites; count = count; images = images.now; mapping = mapping.now })
-        (record { labels = labels.entry.now; multiplicities = multiplicities.old })
-        (record { labels = labels.exit.now; multiplicities = multiplicities.new }) result }
+        (record { labels = labels.old; multiplicities = multiplicities.old })
+        (record { labels = labels.new; multiplicities = multiplicities.new }) result }
 {
     let v = label_verdict(
         sites,
@@ -83,8 +83,8 @@ pub fn label_orbits(
 )
     ensures { OrbitsLabelled
         (record { sites = sites; count = count; images = images.now; mapping = mapping.now })
-        (record { labels = labels.entry.now; multiplicities = multiplicities.old })
-        (record { labels = labels.exit.now; multiplicities = multiplicities.new }) }
+        (record { labels = labels.old; multiplicities = multiplicities.old })
+        (record { labels = labels.new; multiplicities = multiplicities.new }) }
 {
     let can = can_group(
         sites,

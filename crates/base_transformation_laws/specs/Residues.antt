@@ -3,7 +3,7 @@ use Rattle.std.specs.Prelude.{ℕ, zero, suc, ◌+◌, ◌*◌, ◌-◌, ◌/◌
 use Rattle.std.proofs.Common.{sym, ap, ◌∙◌, mod-lt, arith}
 use Rattle.std.proofs.Math.Nat.{div-add-mod}
 use Rattle.std.proofs.Math.IntN.{ -ℤ-+ℤ_cancel}
-use Rattle.math_matrix.specs.Solve.{var, _⊕_, _⊖_, _⊗_, minus, solve}
+use Rattle.math_matrix.specs.Solve.{var, ◌⊕◌, ◌⊖◌, ◌⊗◌, minus, solve}
 
 -- z modulo n, not negative
 abbrev pub residue : ℤ → ℕ → ℕ

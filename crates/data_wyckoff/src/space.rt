@@ -24,7 +24,7 @@ fn diagonalise(
     r: &mut SnfMatrix,
 ) -> Verdict
     ensures { Diagonalised matrix.old shift.old matrix.new shift.new
-        (record { d = d.exit.now; l = l.new; r = r.new }) result }
+        (record { d = d.new; l = l.new; r = r.new }) result }
 {
     let v = snf(*matrix, d, l, r);
     match v {
@@ -55,7 +55,7 @@ pub fn prepare(
     r: &mut SnfMatrix,
 ) -> Verdict
     ensures { PreparePromise text.now matrix.new shift.new
-        (record { d = d.exit.now; l = l.new; r = r.new }) result }
+        (record { d = d.new; l = l.new; r = r.new }) result }
 {
     let read = read_coordinates(text, matrix, shift);
     match read {
@@ -244,14 +244,14 @@ pub fn prepare_all(
 ) -> Verdict
     ensures { PrepareAllPromise texts.now
         (record {
-          matrices = matrices.entry.now;
+          matrices = matrices.old;
           shifts = shifts.old;
           ds = ds.old;
           ls = ls.old;
           rs = rs.old;
         })
         (record {
-          matrices = matrices.exit.now;
+          matrices = matrices.new;
           shifts = shifts.new;
           ds = ds.new;
           ls = ls.new;

@@ -208,7 +208,7 @@ unfolding each
 after-rest b [] h = rw append-nil b
 after-rest {s} {ts} {t} b (i ∷ r) h =
     rw (foldl-append, ← append_assoc t.rest (i ∷ []) r)
-    (after-rest (after_next b i (all_head _ i r h)) r (all_tail _ i r h))
+    (after-rest {s = foldl step s (print_next i)} (after_next b i (all_head _ i r h)) r (all_tail _ i r h))
 
 after_first : (ts : List Term) (i : Signed) → T (is_item (item_of i)) →
     Behind (foldl step (due ts bare) (print_first i)) ts (record { first = i; rest = [] })

@@ -41,8 +41,8 @@ pub extern "C" fn hoistgarlic_label(
     ensures { AsNumber
         (LabelPromise
         (record { sites = sites; count = count; images = images.now; mapping = mapping.now })
-        (record { labels = labels.entry.now; multiplicities = multiplicities.old })
-        (record { labels = labels.exit.now; multiplicities = multiplicities.new })) result }
+        (record { labels = labels.old; multiplicities = multiplicities.old })
+        (record { labels = labels.new; multiplicities = multiplicities.new })) result }
 {
     number_of(label_sites(sites, count, images, mapping, labels, multiplicities))
 }
@@ -125,12 +125,12 @@ pub extern "C" fn hoistgarlic_letter(
           symprec = symprec;
         })
         (record {
-          labels = labels.entry.now;
+          labels = labels.old;
           multiplicities = multiplicities.old;
           letters = letters.old;
         })
         (record {
-          labels = labels.exit.now;
+          labels = labels.new;
           multiplicities = multiplicities.new;
           letters = letters.new;
         }))

@@ -521,7 +521,7 @@ fn refuse(d: &mut SnfMatrix, l: &mut SnfMatrix, r: &mut SnfMatrix, k: usize) -> 
 
 // moyo's `SNF::new`: D = L m R, or a refusal
 pub fn snf(m: Linear, d: &mut SnfMatrix, l: &mut SnfMatrix, r: &mut SnfMatrix) -> Verdict
-    ensures { SnfPromise m (record { d = d.exit.now; l = l.new; r = r.new }) result }
+    ensures { SnfPromise m (record { d = d.new; l = l.new; r = r.new }) result }
 {
     if !in_range(m) {
         return refuse(d, l, r, refusal::MATRIX_ENTRY);

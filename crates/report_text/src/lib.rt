@@ -45,7 +45,7 @@ pub fn put_report(
 ) -> usize
     ensures { ReportWritten res
         (record {
-          mapping = mapping.entry.now;
+          mapping = mapping.now;
           labels = labels.now;
           multiplicities = multiplicities.now;
           letters = letters.now;

@@ -58,7 +58,7 @@ fn put_line(
     ensures { Puts
         (line_text
         (record {
-          mapping = mapping.entry.now;
+          mapping = mapping.now;
           labels = labels.now;
           multiplicities = multiplicities.now;
           letters = letters.now;
@@ -85,7 +85,7 @@ pub(crate) fn put_lines(
     ensures { Puts
         (lines_text
         (record {
-          mapping = mapping.entry.now;
+          mapping = mapping.now;
           labels = labels.now;
           multiplicities = multiplicities.now;
           letters = letters.now;

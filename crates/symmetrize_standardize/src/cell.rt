@@ -27,7 +27,7 @@ pub(crate) fn list_cell(
     out_elements: &mut [i32],
 )
     requires { (Limits.copies c ≤ 64) × (length positions.now ≤ length primitive.old) }
-    ensures { CellListed t shift c elements.now positions.entry.now target_rotations.now
+    ensures { CellListed t shift c elements.now positions.now target_rotations.now
         target_translations.now aligned.now primitive.old primitive.new
         (record {
           positions = out_positions.old;

@@ -74,7 +74,7 @@ fn finish(
           letters = length letters.old;
           primitive = length primitive.old;
         }) }
-    ensures cell { CellListed t shift c elements.now positions.entry.now target_rotations.now
+    ensures cell { CellListed t shift c elements.now positions.now target_rotations.now
         target_translations.now aligned.now primitive.old primitive.new
         (record {
           positions = out_positions.old;
@@ -88,22 +88,22 @@ fn finish(
           mapping = mapping.new;
           elements = out_elements.new;
         }) }
-    ensures orbits { Finished (length positions.entry.now * Limits.copies c)
+    ensures orbits { Finished (length positions.now * Limits.copies c)
         (record {
-          sites = length positions.entry.now;
+          sites = length positions.now;
           count = length target_rotations.now;
           images = aligned.now;
-          mapping = take (length positions.entry.now * Limits.copies c) mapping.new;
+          mapping = take (length positions.now * Limits.copies c) mapping.new;
         })
         (record {
-          positions = take (length positions.entry.now * Limits.copies c) out_positions.new;
+          positions = take (length positions.now * Limits.copies c) out_positions.new;
           basis = basis;
           symprec = symprec;
           candidates = candidates.now;
           letters = candidate_letters.now;
           spaces =
               record {
-                matrices = matrices.entry.now;
+                matrices = matrices.now;
                 shifts = shifts.now;
                 ds = ds.now;
                 ls = ls.now;
@@ -111,12 +111,12 @@ fn finish(
               };
         })
         (record {
-          labels = labels.entry.now;
+          labels = labels.old;
           multiplicities = multiplicities.old;
           letters = letters.old;
         })
         (record {
-          labels = labels.exit.now;
+          labels = labels.new;
           multiplicities = multiplicities.new;
           letters = letters.new;
         }) result }
@@ -201,7 +201,7 @@ fn answer(
           shift = shift;
           c = c;
           elements = elements.now;
-          positions = positions.entry.now;
+          positions = positions.now;
           rotations = rotations.now;
           translations = translations.now;
           images = images.now;
@@ -378,7 +378,7 @@ fn answer_with_room(
           shift = shift;
           c = c;
           elements = elements.now;
-          positions = positions.entry.now;
+          positions = positions.now;
           rotations = rotations.now;
           translations = translations.now;
           images = images.now;
@@ -576,7 +576,7 @@ pub fn standardize(
           shift = shift;
           c = c;
           elements = elements.now;
-          positions = positions.entry.now;
+          positions = positions.now;
           rotations = rotations.now;
           translations = translations.now;
           images = images.now;

@@ -63,14 +63,14 @@ pub(crate) fn label_and_letter(
     ensures { OrbitsLettered
         (record { sites = sites; count = count; images = aligned.now; mapping = mapping.now })
         (record {
-          positions = positions.entry.now;
+          positions = positions.now;
           basis = basis;
           symprec = symprec;
           candidates = candidates.now;
           letters = candidate_letters.now;
           spaces =
               record {
-                matrices = matrices.entry.now;
+                matrices = matrices.now;
                 shifts = shifts.now;
                 ds = ds.now;
                 ls = ls.now;
@@ -78,12 +78,12 @@ pub(crate) fn label_and_letter(
               };
         })
         (record {
-          labels = labels.entry.now;
+          labels = labels.old;
           multiplicities = multiplicities.old;
           letters = letters.old;
         })
         (record {
-          labels = labels.exit.now;
+          labels = labels.new;
           multiplicities = multiplicities.new;
           letters = letters.new;
         }) result }

@@ -28,7 +28,7 @@ fn letter_groups(
 ) -> Verdict
     ensures { AssignJudged
         (record {
-          labels = labels.entry.now;
+          labels = labels.now;
           multiplicities = multiplicities.now;
           positions = positions.now;
           basis = basis;
@@ -37,7 +37,7 @@ fn letter_groups(
           letters = candidate_letters.now;
           spaces =
               record {
-                matrices = matrices.entry.now;
+                matrices = matrices.now;
                 shifts = shifts.now;
                 ds = ds.now;
                 ls = ls.now;
@@ -102,14 +102,14 @@ fn letter_labelled(
     ensures { LabelledJudged
         (record { sites = sites; count = count; images = images.now; mapping = mapping.now })
         (record {
-          positions = positions.entry.now;
+          positions = positions.now;
           basis = basis;
           symprec = symprec;
           candidates = candidates.now;
           letters = candidate_letters.now;
           spaces =
               record {
-                matrices = matrices.entry.now;
+                matrices = matrices.now;
                 shifts = shifts.now;
                 ds = ds.now;
                 ls = ls.now;
@@ -117,12 +117,12 @@ fn letter_labelled(
               };
         })
         (record {
-          labels = labels.entry.now;
+          labels = labels.old;
           multiplicities = multiplicities.old;
           letters = letters.old;
         })
         (record {
-          labels = labels.exit.now;
+          labels = labels.new;
           multiplicities = multiplicities.new;
           letters = letters.new;
         }) result }
@@ -189,12 +189,12 @@ pub(crate) fn letter_prepared(
           symprec = symprec;
         })
         (record {
-          labels = labels.entry.now;
+          labels = labels.old;
           multiplicities = multiplicities.old;
           letters = letters.old;
         })
         (record {
-          labels = labels.exit.now;
+          labels = labels.new;
           multiplicities = multiplicities.new;
           letters = letters.new;
         }) result }

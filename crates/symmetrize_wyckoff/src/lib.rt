@@ -54,7 +54,7 @@ fn letter_table(
         (letter_of
         (sites_in
         (record {
-          labels = labels.entry.now;
+          labels = labels.now;
           multiplicities = multiplicities.now;
           positions = positions.now;
           basis = basis;
@@ -63,7 +63,7 @@ fn letter_table(
           letters = candidate_letters.now;
           spaces =
               record {
-                matrices = matrices.entry.now;
+                matrices = matrices.now;
                 shifts = shifts.now;
                 ds = ds.now;
                 ls = ls.now;
@@ -114,7 +114,7 @@ pub fn assign_wyckoffs_by_orbit(
 ) -> bool
     ensures { Assigned
         (record {
-          labels = labels.entry.now;
+          labels = labels.now;
           multiplicities = multiplicities.now;
           positions = positions.now;
           basis = basis;
@@ -123,7 +123,7 @@ pub fn assign_wyckoffs_by_orbit(
           letters = candidate_letters.now;
           spaces =
               record {
-                matrices = matrices.entry.now;
+                matrices = matrices.now;
                 shifts = shifts.now;
                 ds = ds.now;
                 ls = ls.now;
@@ -201,12 +201,12 @@ fn judge(
           symprec = symprec;
         })
         (record {
-          labels = labels.entry.now;
+          labels = labels.old;
           multiplicities = multiplicities.old;
           letters = letters.old;
         })
         (record {
-          labels = labels.exit.now;
+          labels = labels.new;
           multiplicities = multiplicities.new;
           letters = letters.new;
         }) result }
@@ -271,12 +271,12 @@ pub fn letter_sites(
           symprec = symprec;
         })
         (record {
-          labels = labels.entry.now;
+          labels = labels.old;
           multiplicities = multiplicities.old;
           letters = letters.old;
         })
         (record {
-          labels = labels.exit.now;
+          labels = labels.new;
           multiplicities = multiplicities.new;
           letters = letters.new;
         }) result }

@@ -39,7 +39,7 @@ pub(crate) fn note_letters(
         (walked
         (found_by
         (record {
-          multiplicities = multiplicities.entry.now;
+          multiplicities = multiplicities.now;
           positions = positions.now;
           basis = basis;
           symprec = symprec;

@@ -37,15 +37,3 @@ returns-in-Refused c =
     let q : c.settled-r.result ≡ Refused n = c.in-Refused.is in
     let found : Settled c.args.bytes.now (rooms_at (goal.at.returns-in-Refused c).Start) (Refused n) = subst (Settled c.args.bytes.now (rooms_at (goal.at.returns-in-Refused c).Start)) q c.settled-r.ensures in
     rw q (refused_kept c.args.bytes.now _ _ n found c.refuse.ensures)
-
-pub settled-r-requires : goal.settled-r-requires
-settled-r-requires c = tt
-
-pub enum_known-r : goal.enum_known-r
-enum_known-r c = c.in-Read.keys1
-
-pub enum_told-1 : goal.enum_told-1
-enum_told-1 c = c.in-Read.keys2
-
-pub refuse-requires : goal.refuse-requires
-refuse-requires c = tt

@@ -20,6 +20,6 @@ returns-in-Refused c =
 
 pub returns-in-Accepted : goal.returns-in-Accepted
 returns-in-Accepted c =
-    let header = c in
-    report-accepted c.args.res (shown (goal.at.returns-in-Accepted c).Start) (search rules) header.put-header.ensures
+    let header = c.put_header-at in
+    report-accepted c.args.res (shown (goal.at.returns-in-Accepted c).Start) (search rules) header.ensures
     c.put_lines.ensures

@@ -2,6 +2,7 @@
 use Rattle.std.proofs.Common.{sym, length-take-le}
 use Rattle.shuffle.proofs.Started.{long, shuffled_there, all-zero}
 use Rattle.shuffle.proofs.shuffle.Goals as goal
+use Rattle.shuffle.proofs.shuffle.Goals.{In-Accepted}
 
 pub slice_bounds-swap_down-end : goal.slice_bounds-swap_down-end
 slice_bounds-swap_down-end c =
@@ -10,7 +11,7 @@ slice_bounds-swap_down-end c =
     long a.n a.seed a.out.now i.new.out i.result i.ensures.1 c.in-Accepted.is
 
 pub slice_bounds-swap_down-end-in-Accepted : goal.slice_bounds-swap_down-end-in-Accepted
-slice_bounds-swap_down-end-in-Accepted c = sym (length-take-le _ _ (slice_bounds-swap_down-end c.before))
+slice_bounds-swap_down-end-in-Accepted c = sym (length-take-le _ _ (slice_bounds-swap_down-end (goal.at.slice_bounds-swap_down-end-in-Accepted c).In-Accepted))
 
 pub returns-in-Accepted : goal.returns-in-Accepted
 returns-in-Accepted c =

@@ -1,5 +1,4 @@
 -- `put_lines`: before the site j the lines of the sites before it are put.
-use Prim.Native.Nat.{◌-◌}
 use mathlib.Core.Path.{◌≡◌, subst}
 use native.Mathlib.Omega.{arith}
 use Rattle.definitions.specs.WholeCalls.{Shown}

@@ -7,7 +7,7 @@ abbrev pub invariant-loop-j : goal.invariant-loop-j
 invariant-loop-j l =
     (l.j ≤ l.sites)
     × Puts
-    (lines_text (record { l.mapping = l.mapping; l.labels = l.labels; l.multiplicities = l.multiplicities; l.letters = l.letters }) l.j)
+    (lines_text (record { mapping = l.mapping; labels = l.labels; multiplicities = l.multiplicities; letters = l.letters }) l.j)
     l.at l.initial.out l.out l.next
 
 abbrev pub decreases-loop-j : goal.decreases-loop-j

@@ -1,0 +1,10 @@
+use Rattle.std.proofs.Common.{◌-◌, map, length}
+use Rattle.base_transformation.specs.Runs.{copy_cells}
+use Rattle.base_transformation.proofs.Laying.{Written}
+use Rattle.base_transformation.proofs.cell.put_copies.Given as goal
+
+abbrev pub invariant-loop-k : goal.invariant-loop-k
+invariant-loop-k l = Written (map (copy_cells l.inverse l.p) l.points) l.initial.run l.run l.k
+
+abbrev pub decreases-loop-k : goal.decreases-loop-k
+decreases-loop-k l = length l.points - l.k
