@@ -1,16 +1,16 @@
 // The report program: a job's bytes on standard input, its report on standard output. Only the reading and the writing
-// are trusted.
+// are trusted; where one of them fails, `main` ends with its error.
 #![tactic(auto)]
 
-ghost use Rattle.std.specs.Prelude.{◌≡◌, length, take};
+ghost use Rattle.std.specs.Prelude.{◌≡◌, length, take, IfOk};
 ghost use Rattle.definitions.specs.WholeCalls.{ReportPromise};
-ghost use Rattle.io.specs.Counts.{IsPrefixLen};
-ghost use Rattle.report.specs.Input.{input_bytes};
+ghost use Rattle.report.specs.Input.{input_bytes, IsPrefixLen};
 
 use definitions::limits::{MOST_BYTES, MOST_LISTED, MOST_SITES};
 use job_standardize::standardize_bytes;
-use libc::{STDIN_FILENO, STDOUT_FILENO};
 use report_text::{REPORT_BYTES, put_report};
+use std::io;
+use std::io::{Read, Write};
 
 // one byte more than a job has at the most
 const INPUT_BYTES: usize = MOST_BYTES + 1;
@@ -54,10 +54,28 @@ fn report_of(bytes: &[u8], text: &mut [u8; REPORT_BYTES]) -> usize
     put_report(result, &mapping, &labels, &multiplicities, &letters, text)
 }
 
-fn main() {
+// Reads until the buffer is full or the input has ended, and tells how many bytes stand in the buffer.
+fn read_full<R: Read>(reader: &mut R, buf: &mut [u8]) -> io::Result<usize>
+    ensures { IfOk result (λ n. IsPrefixLen n buf.new) }
+{
+    let mut done = 0;
+    for _ in 0..u64::MAX {
+        if done >= buf.len() {
+            break;
+        }
+        let n = reader.read(&mut buf[done..])?;
+        if n == 0 {
+            break;
+        }
+        done += n;
+    }
+    Ok(done)
+}
+
+fn main(rt: HostRuntime) -> io::Result<()> {
     let mut input = input_buffer();
-    let n = io::read_full(STDIN_FILENO, &mut input);
+    let n = read_full(&mut rt.reader(), &mut input)?;
     let mut text = [0u8; REPORT_BYTES];
     let k = report_of(&input[..n], &mut text);
-    io::write_all(STDOUT_FILENO, &text[..k]);
+    io::writer(&rt).write_all(&text[..k])
 }

@@ -1,7 +1,9 @@
 // The matrix of a centring, which is given by its letter.
+use crate::streams::Streams;
 use data_centering::linear;
 use definitions::Centering;
 use math_matrix::widened;
+use std::io::{self, Read, Write};
 
 fn centering_of(letter: u8) -> Centering {
     match letter {
@@ -15,8 +17,8 @@ fn centering_of(letter: u8) -> Centering {
     }
 }
 
-pub(crate) fn run_linear() {
-    let letter = crate::records::read_byte();
-    crate::records::print(&[b' ', letter]);
-    crate::records::print_matrix(widened(linear(centering_of(letter))));
+pub(crate) fn run_linear<R: Read, W: Write>(streams: &mut Streams<R, W>) -> io::Result<()> {
+    let letter = crate::records::read_byte(streams)?;
+    crate::records::print(streams, &[b' ', letter])?;
+    crate::records::print_matrix(streams, widened(linear(centering_of(letter))))
 }

@@ -5,6 +5,7 @@ use crate::records::{
     print_matrices, print_numbers, print_points, print_refused, print_rotation, print_triple,
     print_triples, read_bytes, read_long, read_matrices, read_matrix, read_triples,
 };
+use crate::streams::Streams;
 use definitions::{
     Basis, Cells, JobCounts, JobRead, Linear, Point, Position, Rotation, Standardized, Text,
 };
@@ -12,6 +13,7 @@ use job::read_job;
 use job_standardize::standardize_bytes;
 use math_real::position::position_of;
 use report_text::put_report;
+use std::io::{self, Read, Write};
 use symmetrize_standardize::standardize;
 
 const ZERO: Rotation = [[0, 0, 0], [0, 0, 0], [0, 0, 0]];
@@ -20,68 +22,87 @@ const LENT_BASIS: Basis = [[7.0, 7.0, 7.0], [7.0, 7.0, 7.0], [7.0, 7.0, 7.0]];
 
 // ---- what is said
 
-fn print_standardized(r: Standardized) {
+fn print_standardized<R: Read, W: Write>(
+    streams: &mut Streams<R, W>,
+    r: Standardized,
+) -> io::Result<()> {
     match r {
         Standardized::Accepted(sites, orbits) => {
-            print(b" accepted");
-            print_count(sites);
-            print_count(orbits);
+            print(streams, b" accepted")?;
+            print_count(streams, sites)?;
+            print_count(streams, orbits)
         }
-        Standardized::Refused(k) => print_refused(k),
+        Standardized::Refused(k) => print_refused(streams, k),
     }
 }
 
 // and the answer's bases and factors
-fn print_answer(r: Standardized, primitive: Basis, listed: Basis, factors: [i16; 3]) {
-    print_standardized(r);
-    print_basis(primitive);
-    print_basis(listed);
-    crate::records::print_row(factors);
+fn print_answer<R: Read, W: Write>(
+    streams: &mut Streams<R, W>,
+    r: Standardized,
+    primitive: Basis,
+    listed: Basis,
+    factors: [i16; 3],
+) -> io::Result<()> {
+    print_standardized(streams, r)?;
+    print_basis(streams, primitive)?;
+    print_basis(streams, listed)?;
+    crate::records::print_row(streams, factors)
 }
 
-fn print_report(
+fn print_report<R: Read, W: Write>(
+    streams: &mut Streams<R, W>,
     r: Standardized,
     mapping: &[u16],
     labels: &[u16],
     multiplicities: &[u16],
     letters: &[u8],
-) {
+) -> io::Result<()> {
     let mut text = [0u8; LONG];
     let n = put_report(r, mapping, labels, multiplicities, letters, &mut text);
-    crate::records::print_digits(&text, n);
+    crate::records::print_digits(streams, &text, n)
 }
 
-fn print_counts(k: JobCounts) {
-    print(b" read");
-    print_count(k.sites);
-    print_count(k.operations);
-    print_count(k.images);
-    print_count(k.targets);
-    print_count(k.rotations);
-    print_count(k.candidates);
+fn print_counts<R: Read, W: Write>(streams: &mut Streams<R, W>, k: JobCounts) -> io::Result<()> {
+    print(streams, b" read")?;
+    print_count(streams, k.sites)?;
+    print_count(streams, k.operations)?;
+    print_count(streams, k.images)?;
+    print_count(streams, k.targets)?;
+    print_count(streams, k.rotations)?;
+    print_count(streams, k.candidates)
 }
 
-fn print_read(r: JobRead) {
+fn print_read<R: Read, W: Write>(streams: &mut Streams<R, W>, r: JobRead) -> io::Result<()> {
     match r {
-        JobRead::Read(k) => print_counts(k),
-        JobRead::Refused(k) => print_refused(k),
+        JobRead::Read(k) => print_counts(streams, k),
+        JobRead::Refused(k) => print_refused(streams, k),
     }
 }
 
 // and what a job has one of
-fn print_singles(r: JobRead, lattice: Basis, t: Linear, shift: Cells, c: Linear, symprec: f64) {
-    print_read(r);
-    print_basis(lattice);
-    print_rotation(t);
-    print_triple(shift);
-    print_rotation(c);
-    print_float(symprec);
+fn print_singles<R: Read, W: Write>(
+    streams: &mut Streams<R, W>,
+    r: JobRead,
+    lattice: Basis,
+    t: Linear,
+    shift: Cells,
+    c: Linear,
+    symprec: f64,
+) -> io::Result<()> {
+    print_read(streams, r)?;
+    print_basis(streams, lattice)?;
+    print_rotation(streams, t)?;
+    print_triple(streams, shift)?;
+    print_rotation(streams, c)?;
+    print_float(streams, symprec)
 }
 
 // ---- the whole call on bytes
 
 // The call, what it said, the bases and factors, and the report.
-fn on_bytes(
+fn on_bytes<R: Read, W: Write>(
+    streams: &mut Streams<R, W>,
     bytes: &[u8],
     out_positions: &mut [Cells],
     out_points: &mut [Point],
@@ -91,7 +112,7 @@ fn on_bytes(
     multiplicities: &mut [u16],
     letters: &mut [u8],
     primitive: &mut [Cells],
-) {
+) -> io::Result<()> {
     let mut primitive_basis = LENT_BASIS;
     let mut listed_basis = LENT_BASIS;
     let mut factors = [7i16; 3];
@@ -109,30 +130,31 @@ fn on_bytes(
         &mut listed_basis,
         &mut factors,
     );
-    print_answer(r, primitive_basis, listed_basis, factors);
-    print_report(r, mapping, labels, multiplicities, letters);
+    print_answer(streams, r, primitive_basis, listed_basis, factors)?;
+    print_report(streams, r, mapping, labels, multiplicities, letters)
 }
 
-pub(crate) fn run_bytes() {
+pub(crate) fn run_bytes<R: Read, W: Write>(streams: &mut Streams<R, W>) -> io::Result<()> {
     let mut bytes = [0u8; LONG];
-    let n = read_long(&mut bytes);
+    let n = read_long(streams, &mut bytes)?;
     let mut out_positions = [[0.0; 3]; MOST];
-    let p = lend_triples(&mut out_positions);
+    let p = lend_triples(streams, &mut out_positions)?;
     let mut out_points = [[0i64; 3]; MOST];
-    let q = lend_points(&mut out_points);
+    let q = lend_points(streams, &mut out_points)?;
     let mut mapping = [0u16; MOST];
-    let m = lend_numbers(&mut mapping);
+    let m = lend_numbers(streams, &mut mapping)?;
     let mut out_elements = [0i32; MOST];
-    let e = lend_elements(&mut out_elements);
+    let e = lend_elements(streams, &mut out_elements)?;
     let mut labels = [0u16; MOST];
-    let a = lend_numbers(&mut labels);
+    let a = lend_numbers(streams, &mut labels)?;
     let mut multiplicities = [0u16; MOST];
-    let b = lend_numbers(&mut multiplicities);
+    let b = lend_numbers(streams, &mut multiplicities)?;
     let mut letters = [0u8; MOST];
-    let l = lend_bytes(&mut letters);
+    let l = lend_bytes(streams, &mut letters)?;
     let mut primitive = [[0.0; 3]; MOST];
-    let i = lend_triples(&mut primitive);
+    let i = lend_triples(streams, &mut primitive)?;
     on_bytes(
+        streams,
         &bytes[..n],
         &mut out_positions[..p],
         &mut out_points[..q],
@@ -142,21 +164,22 @@ pub(crate) fn run_bytes() {
         &mut multiplicities[..b],
         &mut letters[..l],
         &mut primitive[..i],
-    );
-    print_triples(&out_positions, p);
-    print_points(&out_points, q);
-    print_numbers(&mapping, m);
-    print_elements(&out_elements, e);
-    print_numbers(&labels, a);
-    print_numbers(&multiplicities, b);
-    print_bytes(&letters, l);
-    print_triples(&primitive, i);
+    )?;
+    print_triples(streams, &out_positions, p)?;
+    print_points(streams, &out_points, q)?;
+    print_numbers(streams, &mapping, m)?;
+    print_elements(streams, &out_elements, e)?;
+    print_numbers(streams, &labels, a)?;
+    print_numbers(streams, &multiplicities, b)?;
+    print_bytes(streams, &letters, l)?;
+    print_triples(streams, &primitive, i)
 }
 
 // ---- the whole call on lists
 
 // The call, what it said, and the bases and factors.
-fn on_lists(
+fn on_lists<R: Read, W: Write>(
+    streams: &mut Streams<R, W>,
     lattice: Basis,
     t: Linear,
     shift: Position,
@@ -181,7 +204,7 @@ fn on_lists(
     multiplicities: &mut [u16],
     letters: &mut [u8],
     primitive: &mut [Cells],
-) {
+) -> io::Result<()> {
     let mut primitive_basis = LENT_BASIS;
     let mut listed_basis = LENT_BASIS;
     let mut factors = [7i16; 3];
@@ -214,11 +237,12 @@ fn on_lists(
         &mut listed_basis,
         &mut factors,
     );
-    print_answer(r, primitive_basis, listed_basis, factors);
+    print_answer(streams, r, primitive_basis, listed_basis, factors)
 }
 
 // reads the rooms
-fn lend_to_lists(
+fn lend_to_lists<R: Read, W: Write>(
+    streams: &mut Streams<R, W>,
     lattice: Basis,
     t: Linear,
     shift: Position,
@@ -235,24 +259,25 @@ fn lend_to_lists(
     candidate_letters: &[u8],
     texts: &[Text],
     symprec: f64,
-) {
+) -> io::Result<()> {
     let mut out_positions = [[0.0; 3]; MOST];
-    let p = lend_triples(&mut out_positions);
+    let p = lend_triples(streams, &mut out_positions)?;
     let mut out_points = [[0i64; 3]; MOST];
-    let q = lend_points(&mut out_points);
+    let q = lend_points(streams, &mut out_points)?;
     let mut mapping = [0u16; MOST];
-    let m = lend_numbers(&mut mapping);
+    let m = lend_numbers(streams, &mut mapping)?;
     let mut out_elements = [0i32; MOST];
-    let e = lend_elements(&mut out_elements);
+    let e = lend_elements(streams, &mut out_elements)?;
     let mut labels = [0u16; MOST];
-    let a = lend_numbers(&mut labels);
+    let a = lend_numbers(streams, &mut labels)?;
     let mut multiplicities = [0u16; MOST];
-    let b = lend_numbers(&mut multiplicities);
+    let b = lend_numbers(streams, &mut multiplicities)?;
     let mut letters = [0u8; MOST];
-    let l = lend_bytes(&mut letters);
+    let l = lend_bytes(streams, &mut letters)?;
     let mut primitive = [[0.0; 3]; MOST];
-    let i = lend_triples(&mut primitive);
+    let i = lend_triples(streams, &mut primitive)?;
     on_lists(
+        streams,
         lattice,
         t,
         shift,
@@ -277,19 +302,20 @@ fn lend_to_lists(
         &mut multiplicities[..b],
         &mut letters[..l],
         &mut primitive[..i],
-    );
-    print_triples(&out_positions, p);
-    print_points(&out_points, q);
-    print_numbers(&mapping, m);
-    print_elements(&out_elements, e);
-    print_numbers(&labels, a);
-    print_numbers(&multiplicities, b);
-    print_bytes(&letters, l);
-    print_triples(&primitive, i);
+    )?;
+    print_triples(streams, &out_positions, p)?;
+    print_points(streams, &out_points, q)?;
+    print_numbers(streams, &mapping, m)?;
+    print_elements(streams, &out_elements, e)?;
+    print_numbers(streams, &labels, a)?;
+    print_numbers(streams, &multiplicities, b)?;
+    print_bytes(streams, &letters, l)?;
+    print_triples(streams, &primitive, i)
 }
 
 // reads the lists behind the images
-fn read_targets(
+fn read_targets<R: Read, W: Write>(
+    streams: &mut Streams<R, W>,
     lattice: Basis,
     t: Linear,
     shift: Position,
@@ -299,21 +325,22 @@ fn read_targets(
     rotations: &[Rotation],
     translations: &[Cells],
     images: &[u8],
-) {
+) -> io::Result<()> {
     let mut target_rotations = [ZERO; MOST];
-    let g = read_matrices(&mut target_rotations);
+    let g = read_matrices(streams, &mut target_rotations)?;
     let mut target_translations = [[0.0; 3]; MOST];
-    let h = read_triples(&mut target_translations);
+    let h = read_triples(streams, &mut target_translations)?;
     let mut conventional = [ZERO; MOST];
-    let r = read_matrices(&mut conventional);
+    let r = read_matrices(streams, &mut conventional)?;
     let mut candidates = [0u16; MOST];
-    let w = crate::records::read_numbers(&mut candidates);
+    let w = crate::records::read_numbers(streams, &mut candidates)?;
     let mut candidate_letters = [0u8; MOST];
-    let l = read_bytes(&mut candidate_letters);
+    let l = read_bytes(streams, &mut candidate_letters)?;
     let mut texts = [[0u8; 64]; MOST];
-    let x = crate::records::read_texts(&mut texts);
-    let symprec = crate::records::read_float();
+    let x = crate::records::read_texts(streams, &mut texts)?;
+    let symprec = crate::records::read_float(streams)?;
     lend_to_lists(
+        streams,
         lattice,
         t,
         shift,
@@ -330,25 +357,26 @@ fn read_targets(
         &candidate_letters[..l],
         &texts[..x],
         symprec,
-    );
+    )
 }
 
-pub(crate) fn run_lists() {
-    let lattice = crate::records::read_basis();
-    let t = read_matrix();
-    let shift = position_of(crate::records::read_triple());
-    let c = read_matrix();
+pub(crate) fn run_lists<R: Read, W: Write>(streams: &mut Streams<R, W>) -> io::Result<()> {
+    let lattice = crate::records::read_basis(streams)?;
+    let t = read_matrix(streams)?;
+    let shift = position_of(crate::records::read_triple(streams)?);
+    let c = read_matrix(streams)?;
     let mut elements = [0i32; MOST];
-    let e = crate::records::read_elements(&mut elements);
+    let e = crate::records::read_elements(streams, &mut elements)?;
     let mut positions = [[0.0; 3]; MOST];
-    let n = read_triples(&mut positions);
+    let n = read_triples(streams, &mut positions)?;
     let mut rotations = [ZERO; MOST];
-    let k = read_matrices(&mut rotations);
+    let k = read_matrices(streams, &mut rotations)?;
     let mut translations = [[0.0; 3]; MOST];
-    let h = read_triples(&mut translations);
+    let h = read_triples(streams, &mut translations)?;
     let mut images = [0u8; LONG];
-    let p = read_long(&mut images);
+    let p = read_long(streams, &mut images)?;
     read_targets(
+        streams,
         lattice,
         t,
         shift,
@@ -358,13 +386,14 @@ pub(crate) fn run_lists() {
         &rotations[..k],
         &translations[..h],
         &images[..p],
-    );
+    )
 }
 
 // ---- the reader of a job's bytes
 
 // The call, what it said, and what a job has one of.
-fn on_read(
+fn on_read<R: Read, W: Write>(
+    streams: &mut Streams<R, W>,
     bytes: &[u8],
     elements: &mut [i32],
     positions: &mut [Cells],
@@ -377,7 +406,7 @@ fn on_read(
     candidates: &mut [u16],
     candidate_letters: &mut [u8],
     texts: &mut [Text],
-) {
+) -> io::Result<()> {
     let mut lattice = LENT_BASIS;
     let mut t = SEVENS;
     let mut shift = [7.0; 3];
@@ -402,31 +431,33 @@ fn on_read(
         texts,
         &mut symprec,
     );
-    print_singles(r, lattice, t, shift, c, symprec);
+    print_singles(streams, r, lattice, t, shift, c, symprec)
 }
 
 // lends the lists behind the images
-fn lend_targets(
+fn lend_targets<R: Read, W: Write>(
+    streams: &mut Streams<R, W>,
     bytes: &[u8],
     elements: &mut [i32],
     positions: &mut [Cells],
     rotations: &mut [Rotation],
     translations: &mut [Cells],
     images: &mut [u8],
-) {
+) -> io::Result<()> {
     let mut target_rotations = [ZERO; MOST];
-    let g = lend_matrices(&mut target_rotations);
+    let g = lend_matrices(streams, &mut target_rotations)?;
     let mut target_translations = [[0.0; 3]; MOST];
-    let h = lend_triples(&mut target_translations);
+    let h = lend_triples(streams, &mut target_translations)?;
     let mut conventional = [ZERO; MOST];
-    let r = lend_matrices(&mut conventional);
+    let r = lend_matrices(streams, &mut conventional)?;
     let mut candidates = [0u16; MOST];
-    let w = lend_numbers(&mut candidates);
+    let w = lend_numbers(streams, &mut candidates)?;
     let mut candidate_letters = [0u8; MOST];
-    let l = lend_bytes(&mut candidate_letters);
+    let l = lend_bytes(streams, &mut candidate_letters)?;
     let mut texts = [[0u8; 64]; MOST];
-    let x = crate::records::lend_texts(&mut texts);
+    let x = crate::records::lend_texts(streams, &mut texts)?;
     on_read(
+        streams,
         bytes,
         elements,
         positions,
@@ -439,39 +470,40 @@ fn lend_targets(
         &mut candidates[..w],
         &mut candidate_letters[..l],
         &mut texts[..x],
-    );
-    print_matrices(&target_rotations, g);
-    print_triples(&target_translations, h);
-    print_matrices(&conventional, r);
-    print_numbers(&candidates, w);
-    print_bytes(&candidate_letters, l);
-    crate::records::print_texts(&texts, x);
+    )?;
+    print_matrices(streams, &target_rotations, g)?;
+    print_triples(streams, &target_translations, h)?;
+    print_matrices(streams, &conventional, r)?;
+    print_numbers(streams, &candidates, w)?;
+    print_bytes(streams, &candidate_letters, l)?;
+    crate::records::print_texts(streams, &texts, x)
 }
 
-pub(crate) fn run_read() {
+pub(crate) fn run_read<R: Read, W: Write>(streams: &mut Streams<R, W>) -> io::Result<()> {
     let mut bytes = [0u8; LONG];
-    let s = read_long(&mut bytes);
+    let s = read_long(streams, &mut bytes)?;
     let mut elements = [0i32; MOST];
-    let e = lend_elements(&mut elements);
+    let e = lend_elements(streams, &mut elements)?;
     let mut positions = [[0.0; 3]; MOST];
-    let n = lend_triples(&mut positions);
+    let n = lend_triples(streams, &mut positions)?;
     let mut rotations = [ZERO; MOST];
-    let k = lend_matrices(&mut rotations);
+    let k = lend_matrices(streams, &mut rotations)?;
     let mut translations = [[0.0; 3]; MOST];
-    let h = lend_triples(&mut translations);
+    let h = lend_triples(streams, &mut translations)?;
     let mut images = [0u8; LONG];
-    let p = crate::records::lend_long(&mut images);
+    let p = crate::records::lend_long(streams, &mut images)?;
     lend_targets(
+        streams,
         &bytes[..s],
         &mut elements[..e],
         &mut positions[..n],
         &mut rotations[..k],
         &mut translations[..h],
         &mut images[..p],
-    );
-    print_elements(&elements, e);
-    print_triples(&positions, n);
-    print_matrices(&rotations, k);
-    print_triples(&translations, h);
-    crate::records::print_long(&images, p);
+    )?;
+    print_elements(streams, &elements, e)?;
+    print_triples(streams, &positions, n)?;
+    print_matrices(streams, &rotations, k)?;
+    print_triples(streams, &translations, h)?;
+    crate::records::print_long(streams, &images, p)
 }

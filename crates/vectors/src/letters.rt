@@ -1,10 +1,13 @@
 // The letter call of symmetrize/wyckoff.rs: labels, multiplicities and letters.
 use crate::records::{MOST, lend_numbers, print_numbers, read_bytes, read_numbers, read_size};
+use crate::streams::Streams;
 use definitions::{Basis, Cells, Text};
+use std::io::{self, Read, Write};
 use symmetrize_wyckoff::letter_sites;
 
 // reads the rooms
-fn letter(
+fn letter<R: Read, W: Write>(
+    streams: &mut Streams<R, W>,
     sites: usize,
     count: usize,
     images: &[u8],
@@ -15,13 +18,13 @@ fn letter(
     candidate_letters: &[u8],
     texts: &[Text],
     symprec: f64,
-) {
+) -> io::Result<()> {
     let mut labels = [0u16; MOST];
-    let a = lend_numbers(&mut labels);
+    let a = lend_numbers(streams, &mut labels)?;
     let mut multiplicities = [0u16; MOST];
-    let b = lend_numbers(&mut multiplicities);
+    let b = lend_numbers(streams, &mut multiplicities)?;
     let mut letters = [0u8; MOST];
-    let c = crate::records::lend_bytes(&mut letters);
+    let c = crate::records::lend_bytes(streams, &mut letters)?;
     let v = letter_sites(
         sites,
         count,
@@ -37,30 +40,31 @@ fn letter(
         &mut multiplicities[..b],
         &mut letters[..c],
     );
-    crate::records::print_verdict(v);
-    print_numbers(&labels, a);
-    print_numbers(&multiplicities, b);
-    crate::records::print_bytes(&letters, c);
+    crate::records::print_verdict(streams, v)?;
+    print_numbers(streams, &labels, a)?;
+    print_numbers(streams, &multiplicities, b)?;
+    crate::records::print_bytes(streams, &letters, c)
 }
 
-pub(crate) fn run_letters() {
-    let sites = read_size();
-    let count = read_size();
+pub(crate) fn run_letters<R: Read, W: Write>(streams: &mut Streams<R, W>) -> io::Result<()> {
+    let sites = read_size(streams)?;
+    let count = read_size(streams)?;
     let mut images = [0u8; MOST];
-    let e = read_bytes(&mut images);
+    let e = read_bytes(streams, &mut images)?;
     let mut mapping = [0u16; MOST];
-    let m = read_numbers(&mut mapping);
+    let m = read_numbers(streams, &mut mapping)?;
     let mut positions = [[0.0; 3]; MOST];
-    let p = crate::records::read_triples(&mut positions);
-    let basis = crate::records::read_basis();
+    let p = crate::records::read_triples(streams, &mut positions)?;
+    let basis = crate::records::read_basis(streams)?;
     let mut candidates = [0u16; MOST];
-    let c = read_numbers(&mut candidates);
+    let c = read_numbers(streams, &mut candidates)?;
     let mut letters = [0u8; MOST];
-    let l = read_bytes(&mut letters);
+    let l = read_bytes(streams, &mut letters)?;
     let mut texts = [[0u8; 64]; MOST];
-    let t = crate::records::read_texts(&mut texts);
-    let symprec = crate::records::read_float();
+    let t = crate::records::read_texts(streams, &mut texts)?;
+    let symprec = crate::records::read_float(streams)?;
     letter(
+        streams,
         sites,
         count,
         &images[..e],
@@ -71,5 +75,5 @@ pub(crate) fn run_letters() {
         &letters[..l],
         &texts[..t],
         symprec,
-    );
+    )
 }

@@ -61,62 +61,70 @@ mod letters;
 mod permutation;
 mod records;
 mod snf;
+mod streams;
 mod symmetrization;
 mod transformation;
 mod wyckoff;
 
 use crate::records::print;
+use crate::streams::Streams;
+use std::io::{self, BufReader, BufWriter, Read, Write};
 
-fn run(tag: u8) {
+fn run<R: Read, W: Write>(streams: &mut Streams<R, W>, tag: u8) -> io::Result<()> {
     match tag {
-        b'r' => floats::run_round(),
-        b's' => floats::run_steps(),
-        b'q' => floats::run_sqrt(),
-        b'm' => floats::run_remainder(),
-        b'D' => snf::run_snf(),
-        b'N' => snf::run_passes(),
-        b'F' => transformation::run_factors(),
-        b'P' => transformation::run_points(),
-        b'T' => transformation::run_rotation(),
-        b'C' => centering::run_linear(),
-        b'i' => permutation::run_identity(),
-        b'a' => permutation::run_apply(),
-        b'v' => permutation::run_inverse(),
-        b'x' => permutation::run_product(),
-        b't' => permutation::run_step(),
-        b'h' => permutation::run_shuffle(),
-        b'W' => coordinates::run_read(),
-        b'S' => symmetrization::run_positions(),
-        b'L' => symmetrization::run_lattice(),
-        b'A' => align::run_align(),
-        b'l' => cell::run_list(),
-        b'o' => labels::run_labels(),
-        b'p' => wyckoff::run_prepare(),
-        b'M' => wyckoff::run_match(),
-        b'w' => letters::run_letters(),
-        b'J' => jobs::run_bytes(),
-        b'j' => jobs::run_lists(),
-        b'b' => jobs::run_read(),
-        _ => print(b" is no tag"),
+        b'r' => floats::run_round(streams),
+        b's' => floats::run_steps(streams),
+        b'q' => floats::run_sqrt(streams),
+        b'm' => floats::run_remainder(streams),
+        b'D' => snf::run_snf(streams),
+        b'N' => snf::run_passes(streams),
+        b'F' => transformation::run_factors(streams),
+        b'P' => transformation::run_points(streams),
+        b'T' => transformation::run_rotation(streams),
+        b'C' => centering::run_linear(streams),
+        b'i' => permutation::run_identity(streams),
+        b'a' => permutation::run_apply(streams),
+        b'v' => permutation::run_inverse(streams),
+        b'x' => permutation::run_product(streams),
+        b't' => permutation::run_step(streams),
+        b'h' => permutation::run_shuffle(streams),
+        b'W' => coordinates::run_read(streams),
+        b'S' => symmetrization::run_positions(streams),
+        b'L' => symmetrization::run_lattice(streams),
+        b'A' => align::run_align(streams),
+        b'l' => cell::run_list(streams),
+        b'o' => labels::run_labels(streams),
+        b'p' => wyckoff::run_prepare(streams),
+        b'M' => wyckoff::run_match(streams),
+        b'w' => letters::run_letters(streams),
+        b'J' => jobs::run_bytes(streams),
+        b'j' => jobs::run_lists(streams),
+        b'b' => jobs::run_read(streams),
+        _ => print(streams, b" is no tag"),
     }
 }
 
 // false where the input has ended: no tag is 0
-fn next() -> bool {
-    let tag = crate::records::read_byte();
+fn next<R: Read, W: Write>(streams: &mut Streams<R, W>) -> io::Result<bool> {
+    let tag = crate::records::read_byte(streams)?;
     if tag == 0 {
-        return false;
+        return Ok(false);
     }
-    print(&[tag]);
-    run(tag);
-    print(b"\n");
-    true
+    print(streams, &[tag])?;
+    run(streams, tag)?;
+    print(streams, b"\n")?;
+    Ok(true)
 }
 
-// A proved loop has to end, and nothing says that the input does: the turns are counted down.
-fn main() {
-    let mut turns = u64::MAX;
-    while turns > 0 && next() {
-        turns -= 1;
+// A proved loop has to end, and nothing says that the input does: the turns are counted.
+fn main(rt: HostRuntime) -> io::Result<()> {
+    let input = BufReader::new(rt.alloc(), rt.reader())?;
+    let output = BufWriter::new(rt.alloc(), io::writer(&rt))?;
+    let mut streams = Streams::new(input, output);
+    for _ in 0..u64::MAX {
+        if !next(&mut streams)? {
+            break;
+        }
     }
+    streams.flush()
 }

@@ -1,13 +1,14 @@
 // Records from standard input and words to standard output, for the program that runs vectors. Numbers are
 // little-endian; past the end of the input they are 0. Each word that is printed has a space in front.
-ghost use Rattle.std.specs.Prelude.{◌≡◌, [], ◌∷◌, ◌<◌, ◌≤◌};
+ghost use Rattle.std.specs.Prelude.{◌≡◌, [], ◌∷◌, ◌<◌, ◌≤◌, IfOk};
 ghost use Rattle.std.specs.Float.{binary64};
 ghost use Rattle.std.specs.Float.Ieee.{of_bits};
 ghost use Rattle.vectors.specs.Bytes.{word, signed8, signed32, row, Counts};
 
+use crate::streams::Streams;
 use checks::{magnitude, magnitude16};
 use definitions::{Basis, Cells, Point, Rotation, SnfMatrix, Text, Verdict};
-use libc::{STDIN_FILENO, STDOUT_FILENO};
+use std::io::{self, Read, Write};
 
 // room for the entries of a list, and for lent cells
 pub(crate) const MOST: usize = 1100;
@@ -105,43 +106,41 @@ fn matrix_of(s: [u8; 9]) -> Rotation
 
 // ---- reading
 
-pub(crate) fn read_byte() -> u8 {
-    let mut s = [0u8; 1];
-    io::read_full(STDIN_FILENO, &mut s);
-    s[0]
+pub(crate) fn read_byte<R: Read, W: Write>(streams: &mut Streams<R, W>) -> io::Result<u8> {
+    streams.read_byte()
 }
 
-pub(crate) fn read_word() -> u64 {
+pub(crate) fn read_word<R: Read, W: Write>(streams: &mut Streams<R, W>) -> io::Result<u64> {
     let mut s = [0u8; 8];
-    io::read_full(STDIN_FILENO, &mut s);
-    word_of(s)
+    streams.fill(&mut s)?;
+    Ok(word_of(s))
 }
 
 // a size of any magnitude
-pub(crate) fn read_size() -> usize {
-    read_word() as usize
+pub(crate) fn read_size<R: Read, W: Write>(streams: &mut Streams<R, W>) -> io::Result<usize> {
+    Ok(read_word(streams)? as usize)
 }
 
 // two bytes
-fn read_u16() -> u16 {
-    let low = read_byte() as u16;
-    let high = read_byte() as u16;
-    low + 256 * high
+fn read_u16<R: Read, W: Write>(streams: &mut Streams<R, W>) -> io::Result<u16> {
+    let low = read_byte(streams)? as u16;
+    let high = read_byte(streams)? as u16;
+    Ok(low + 256 * high)
 }
 
-pub(crate) fn read_number() -> usize {
-    read_u16() as usize
+pub(crate) fn read_number<R: Read, W: Write>(streams: &mut Streams<R, W>) -> io::Result<usize> {
+    Ok(read_u16(streams)? as usize)
 }
 
 // four bytes
-pub(crate) fn read_u32() -> u32 {
-    let low = read_u16() as u32;
-    let high = read_u16() as u32;
-    low + 65536 * high
+pub(crate) fn read_u32<R: Read, W: Write>(streams: &mut Streams<R, W>) -> io::Result<u32> {
+    let low = read_u16(streams)? as u32;
+    let high = read_u16(streams)? as u32;
+    Ok(low + 65536 * high)
 }
 
-fn read_element() -> i32 {
-    signed_word(read_u32())
+fn read_element<R: Read, W: Write>(streams: &mut Streams<R, W>) -> io::Result<i32> {
+    Ok(signed_word(read_u32(streams)?))
 }
 
 // no more than a list has room for
@@ -164,385 +163,483 @@ fn within_long(n: usize) -> usize
     n
 }
 
-pub(crate) fn read_float() -> f64 {
-    float_of(read_word())
+pub(crate) fn read_float<R: Read, W: Write>(streams: &mut Streams<R, W>) -> io::Result<f64> {
+    Ok(float_of(read_word(streams)?))
 }
 
-pub(crate) fn read_triple() -> Cells {
-    let x = read_float();
-    let y = read_float();
-    let z = read_float();
-    [x, y, z]
+pub(crate) fn read_triple<R: Read, W: Write>(streams: &mut Streams<R, W>) -> io::Result<Cells> {
+    let x = read_float(streams)?;
+    let y = read_float(streams)?;
+    let z = read_float(streams)?;
+    Ok([x, y, z])
 }
 
-pub(crate) fn read_matrix() -> Rotation {
+pub(crate) fn read_matrix<R: Read, W: Write>(streams: &mut Streams<R, W>) -> io::Result<Rotation> {
     let mut s = [0u8; 9];
-    io::read_full(STDIN_FILENO, &mut s);
-    matrix_of(s)
+    streams.fill(&mut s)?;
+    Ok(matrix_of(s))
 }
 
 // row by row
-pub(crate) fn read_basis() -> Basis {
-    let x = read_triple();
-    let y = read_triple();
-    let z = read_triple();
-    [x, y, z]
+pub(crate) fn read_basis<R: Read, W: Write>(streams: &mut Streams<R, W>) -> io::Result<Basis> {
+    let x = read_triple(streams)?;
+    let y = read_triple(streams)?;
+    let z = read_triple(streams)?;
+    Ok([x, y, z])
 }
 
-pub(crate) fn read_text() -> Text {
+pub(crate) fn read_text<R: Read, W: Write>(streams: &mut Streams<R, W>) -> io::Result<Text> {
     let mut s = [0u8; 64];
-    io::read_full(STDIN_FILENO, &mut s);
-    s
+    streams.fill(&mut s)?;
+    Ok(s)
 }
 
 // ---- lists: the count, then the entries. Each list is made anew, which shows its length.
 
-pub(crate) fn read_bytes(out: &mut Bytes) -> usize
-    ensures { Counts result out.new }
+pub(crate) fn read_bytes<R: Read, W: Write>(
+    streams: &mut Streams<R, W>,
+    out: &mut Bytes,
+) -> io::Result<usize>
+    ensures { IfOk result (λ n. Counts n out.new) }
 {
     *out = [0; MOST];
-    let n = within(read_number());
-    let mut i: usize = 0;
-    while i < n {
-        out[i] = read_byte();
-        i += 1;
+    let n = within(read_number(streams)?);
+    for entry in &mut out[..n] {
+        *entry = read_byte(streams)?;
     }
-    n
+    Ok(n)
 }
 
 // its count is a size
-pub(crate) fn read_long(out: &mut LongBytes) -> usize
-    ensures { Counts result out.new }
+pub(crate) fn read_long<R: Read, W: Write>(
+    streams: &mut Streams<R, W>,
+    out: &mut LongBytes,
+) -> io::Result<usize>
+    ensures { IfOk result (λ n. Counts n out.new) }
 {
     let mut s = [0u8; LONG];
-    let n = within_long(read_size());
-    io::read_full(STDIN_FILENO, &mut s[..n]);
+    let n = within_long(read_size(streams)?);
+    streams.fill(&mut s[..n])?;
     *out = s;
-    n
+    Ok(n)
 }
 
-pub(crate) fn read_numbers(out: &mut Numbers) -> usize
-    ensures { Counts result out.new }
+pub(crate) fn read_numbers<R: Read, W: Write>(
+    streams: &mut Streams<R, W>,
+    out: &mut Numbers,
+) -> io::Result<usize>
+    ensures { IfOk result (λ n. Counts n out.new) }
 {
     *out = [0; MOST];
-    let n = within(read_number());
-    let mut i: usize = 0;
-    while i < n {
-        out[i] = read_u16();
-        i += 1;
+    let n = within(read_number(streams)?);
+    for entry in &mut out[..n] {
+        *entry = read_u16(streams)?;
     }
-    n
+    Ok(n)
 }
 
-pub(crate) fn read_elements(out: &mut Elements) -> usize
-    ensures { Counts result out.new }
+pub(crate) fn read_elements<R: Read, W: Write>(
+    streams: &mut Streams<R, W>,
+    out: &mut Elements,
+) -> io::Result<usize>
+    ensures { IfOk result (λ n. Counts n out.new) }
 {
     *out = [0; MOST];
-    let n = within(read_number());
-    let mut i: usize = 0;
-    while i < n {
-        out[i] = read_element();
-        i += 1;
+    let n = within(read_number(streams)?);
+    for entry in &mut out[..n] {
+        *entry = read_element(streams)?;
     }
-    n
+    Ok(n)
 }
 
-pub(crate) fn read_texts(out: &mut Texts) -> usize
-    ensures { Counts result out.new }
+pub(crate) fn read_texts<R: Read, W: Write>(
+    streams: &mut Streams<R, W>,
+    out: &mut Texts,
+) -> io::Result<usize>
+    ensures { IfOk result (λ n. Counts n out.new) }
 {
     *out = [[0; 64]; MOST];
-    let n = within(read_number());
-    let mut i: usize = 0;
-    while i < n {
-        out[i] = read_text();
-        i += 1;
+    let n = within(read_number(streams)?);
+    for entry in &mut out[..n] {
+        *entry = read_text(streams)?;
     }
-    n
+    Ok(n)
 }
 
-pub(crate) fn read_triples(out: &mut Triples) -> usize
-    ensures { Counts result out.new }
+pub(crate) fn read_triples<R: Read, W: Write>(
+    streams: &mut Streams<R, W>,
+    out: &mut Triples,
+) -> io::Result<usize>
+    ensures { IfOk result (λ n. Counts n out.new) }
 {
     *out = [[0.0, 0.0, 0.0]; MOST];
-    let n = within(read_number());
-    let mut i: usize = 0;
-    while i < n {
-        out[i] = read_triple();
-        i += 1;
+    let n = within(read_number(streams)?);
+    for entry in &mut out[..n] {
+        *entry = read_triple(streams)?;
     }
-    n
+    Ok(n)
 }
 
-pub(crate) fn read_matrices(out: &mut Matrices) -> usize
-    ensures { Counts result out.new }
+pub(crate) fn read_matrices<R: Read, W: Write>(
+    streams: &mut Streams<R, W>,
+    out: &mut Matrices,
+) -> io::Result<usize>
+    ensures { IfOk result (λ n. Counts n out.new) }
 {
     *out = [ZERO; MOST];
-    let n = within(read_number());
-    let mut i: usize = 0;
-    while i < n {
-        out[i] = read_matrix();
-        i += 1;
+    let n = within(read_number(streams)?);
+    for entry in &mut out[..n] {
+        *entry = read_matrix(streams)?;
     }
-    n
+    Ok(n)
 }
 
 // ---- lent cells, no one of them zero: the record has their number
 
-pub(crate) fn lend_bytes(out: &mut Bytes) -> usize
-    ensures { Counts result out.new }
+pub(crate) fn lend_bytes<R: Read, W: Write>(
+    streams: &mut Streams<R, W>,
+    out: &mut Bytes,
+) -> io::Result<usize>
+    ensures { IfOk result (λ n. Counts n out.new) }
 {
     *out = [7; MOST];
-    within(read_number())
+    Ok(within(read_number(streams)?))
 }
 
-pub(crate) fn lend_long(out: &mut LongBytes) -> usize
-    ensures { Counts result out.new }
+pub(crate) fn lend_long<R: Read, W: Write>(
+    streams: &mut Streams<R, W>,
+    out: &mut LongBytes,
+) -> io::Result<usize>
+    ensures { IfOk result (λ n. Counts n out.new) }
 {
     *out = [7; LONG];
-    within_long(read_number())
+    Ok(within_long(read_number(streams)?))
 }
 
-pub(crate) fn lend_numbers(out: &mut Numbers) -> usize
-    ensures { Counts result out.new }
+pub(crate) fn lend_numbers<R: Read, W: Write>(
+    streams: &mut Streams<R, W>,
+    out: &mut Numbers,
+) -> io::Result<usize>
+    ensures { IfOk result (λ n. Counts n out.new) }
 {
     *out = [7; MOST];
-    within(read_number())
+    Ok(within(read_number(streams)?))
 }
 
-pub(crate) fn lend_elements(out: &mut Elements) -> usize
-    ensures { Counts result out.new }
+pub(crate) fn lend_elements<R: Read, W: Write>(
+    streams: &mut Streams<R, W>,
+    out: &mut Elements,
+) -> io::Result<usize>
+    ensures { IfOk result (λ n. Counts n out.new) }
 {
     *out = [7; MOST];
-    within(read_number())
+    Ok(within(read_number(streams)?))
 }
 
-pub(crate) fn lend_triples(out: &mut Triples) -> usize
-    ensures { Counts result out.new }
+pub(crate) fn lend_triples<R: Read, W: Write>(
+    streams: &mut Streams<R, W>,
+    out: &mut Triples,
+) -> io::Result<usize>
+    ensures { IfOk result (λ n. Counts n out.new) }
 {
     *out = [[7.0, 7.0, 7.0]; MOST];
-    within(read_number())
+    Ok(within(read_number(streams)?))
 }
 
-pub(crate) fn lend_points(out: &mut Points) -> usize
-    ensures { Counts result out.new }
+pub(crate) fn lend_points<R: Read, W: Write>(
+    streams: &mut Streams<R, W>,
+    out: &mut Points,
+) -> io::Result<usize>
+    ensures { IfOk result (λ n. Counts n out.new) }
 {
     *out = [[7, 7, 7]; MOST];
-    within(read_number())
+    Ok(within(read_number(streams)?))
 }
 
-pub(crate) fn lend_texts(out: &mut Texts) -> usize
-    ensures { Counts result out.new }
+pub(crate) fn lend_texts<R: Read, W: Write>(
+    streams: &mut Streams<R, W>,
+    out: &mut Texts,
+) -> io::Result<usize>
+    ensures { IfOk result (λ n. Counts n out.new) }
 {
     *out = [[7; 64]; MOST];
-    within(read_number())
+    Ok(within(read_number(streams)?))
 }
 
-pub(crate) fn lend_matrices(out: &mut Matrices) -> usize
-    ensures { Counts result out.new }
+pub(crate) fn lend_matrices<R: Read, W: Write>(
+    streams: &mut Streams<R, W>,
+    out: &mut Matrices,
+) -> io::Result<usize>
+    ensures { IfOk result (λ n. Counts n out.new) }
 {
     *out = [SEVENS; MOST];
-    within(read_number())
+    Ok(within(read_number(streams)?))
 }
 
 // ---- writing
 
-pub(crate) fn print(text: &[u8]) {
-    io::write_all(STDOUT_FILENO, text);
+pub(crate) fn print<R: Read, W: Write>(streams: &mut Streams<R, W>, text: &[u8]) -> io::Result<()> {
+    streams.write_bytes(text)
 }
 
-pub(crate) fn print_count(n: usize) {
-    print(b" ");
-    io::print_decimal(STDOUT_FILENO, n as u64);
+pub(crate) fn print_count<R: Read, W: Write>(
+    streams: &mut Streams<R, W>,
+    n: usize,
+) -> io::Result<()> {
+    print(streams, b" ")?;
+    streams.write_decimal(n)
 }
 
-fn print_byte(x: u8) {
-    print_count(x as usize);
+fn print_byte<R: Read, W: Write>(streams: &mut Streams<R, W>, x: u8) -> io::Result<()> {
+    print_count(streams, x as usize)
 }
 
-fn print_u16(x: u16) {
-    print_count(x as usize);
+fn print_u16<R: Read, W: Write>(streams: &mut Streams<R, W>, x: u16) -> io::Result<()> {
+    print_count(streams, x as usize)
 }
 
-fn print_signed(negative: bool, size: usize) {
+fn print_signed<R: Read, W: Write>(
+    streams: &mut Streams<R, W>,
+    negative: bool,
+    size: usize,
+) -> io::Result<()> {
     if negative {
-        print(b" -");
+        print(streams, b" -")?;
     } else {
-        print(b" ");
+        print(streams, b" ")?;
     }
-    io::print_decimal(STDOUT_FILENO, size as u64);
+    streams.write_decimal(size)
 }
 
-fn print_i64(x: i64) {
-    print_signed(x < 0, magnitude(x));
+fn print_i64<R: Read, W: Write>(streams: &mut Streams<R, W>, x: i64) -> io::Result<()> {
+    print_signed(streams, x < 0, magnitude(x))
 }
 
-fn print_i32(x: i32) {
-    print_i64(x as i64);
+fn print_i32<R: Read, W: Write>(streams: &mut Streams<R, W>, x: i32) -> io::Result<()> {
+    print_i64(streams, x as i64)
 }
 
-fn print_i16(x: i16) {
-    print_signed(x < 0, magnitude16(x));
+fn print_i16<R: Read, W: Write>(streams: &mut Streams<R, W>, x: i16) -> io::Result<()> {
+    print_signed(streams, x < 0, magnitude16(x))
 }
 
-fn print_i8(x: i8) {
-    print_i64(x as i64);
+fn print_i8<R: Read, W: Write>(streams: &mut Streams<R, W>, x: i8) -> io::Result<()> {
+    print_i64(streams, x as i64)
 }
 
-fn print_rotation_row(r: [i8; 3]) {
-    print_i8(r[0]);
-    print_i8(r[1]);
-    print_i8(r[2]);
+fn print_rotation_row<R: Read, W: Write>(
+    streams: &mut Streams<R, W>,
+    r: [i8; 3],
+) -> io::Result<()> {
+    print_i8(streams, r[0])?;
+    print_i8(streams, r[1])?;
+    print_i8(streams, r[2])
 }
 
-pub(crate) fn print_rotation(m: Rotation) {
-    print_rotation_row(m[0]);
-    print_rotation_row(m[1]);
-    print_rotation_row(m[2]);
+pub(crate) fn print_rotation<R: Read, W: Write>(
+    streams: &mut Streams<R, W>,
+    m: Rotation,
+) -> io::Result<()> {
+    print_rotation_row(streams, m[0])?;
+    print_rotation_row(streams, m[1])?;
+    print_rotation_row(streams, m[2])
 }
 
-pub(crate) fn print_point(p: Point) {
-    print_i64(p[0]);
-    print_i64(p[1]);
-    print_i64(p[2]);
+pub(crate) fn print_point<R: Read, W: Write>(
+    streams: &mut Streams<R, W>,
+    p: Point,
+) -> io::Result<()> {
+    print_i64(streams, p[0])?;
+    print_i64(streams, p[1])?;
+    print_i64(streams, p[2])
 }
 
-pub(crate) fn print_row(r: [i16; 3]) {
-    print_i16(r[0]);
-    print_i16(r[1]);
-    print_i16(r[2]);
+pub(crate) fn print_row<R: Read, W: Write>(
+    streams: &mut Streams<R, W>,
+    r: [i16; 3],
+) -> io::Result<()> {
+    print_i16(streams, r[0])?;
+    print_i16(streams, r[1])?;
+    print_i16(streams, r[2])
 }
 
-pub(crate) fn print_matrix(m: SnfMatrix) {
-    print_row(m[0]);
-    print_row(m[1]);
-    print_row(m[2]);
+pub(crate) fn print_matrix<R: Read, W: Write>(
+    streams: &mut Streams<R, W>,
+    m: SnfMatrix,
+) -> io::Result<()> {
+    print_row(streams, m[0])?;
+    print_row(streams, m[1])?;
+    print_row(streams, m[2])
 }
 
-pub(crate) fn print_pattern(bits: u64) {
-    print(b" ");
-    io::print_hex(STDOUT_FILENO, bits, 1);
+pub(crate) fn print_pattern<R: Read, W: Write>(
+    streams: &mut Streams<R, W>,
+    bits: u64,
+) -> io::Result<()> {
+    print(streams, b" ")?;
+    streams.write_hex(bits, 1)
 }
 
 // the pattern, or `nan`
-pub(crate) fn print_float(x: f64) {
+pub(crate) fn print_float<R: Read, W: Write>(
+    streams: &mut Streams<R, W>,
+    x: f64,
+) -> io::Result<()> {
     if x != x {
-        print(b" nan");
-        return;
+        return print(streams, b" nan");
     }
-    print_pattern(f64::to_bits(x));
+    print_pattern(streams, f64::to_bits(x))
 }
 
-pub(crate) fn print_triple(t: Cells) {
-    print_float(t[0]);
-    print_float(t[1]);
-    print_float(t[2]);
+pub(crate) fn print_triple<R: Read, W: Write>(
+    streams: &mut Streams<R, W>,
+    t: Cells,
+) -> io::Result<()> {
+    print_float(streams, t[0])?;
+    print_float(streams, t[1])?;
+    print_float(streams, t[2])
 }
 
-pub(crate) fn print_basis(m: Basis) {
-    print_triple(m[0]);
-    print_triple(m[1]);
-    print_triple(m[2]);
+pub(crate) fn print_basis<R: Read, W: Write>(
+    streams: &mut Streams<R, W>,
+    m: Basis,
+) -> io::Result<()> {
+    print_triple(streams, m[0])?;
+    print_triple(streams, m[1])?;
+    print_triple(streams, m[2])
 }
 
-fn print_text(t: Text) {
-    let mut i: usize = 0;
-    while i < 64 {
-        print_byte(t[i]);
-        i += 1;
+fn print_text<R: Read, W: Write>(streams: &mut Streams<R, W>, t: Text) -> io::Result<()> {
+    for byte in t {
+        print_byte(streams, byte)?;
     }
+    Ok(())
 }
 
-pub(crate) fn print_bytes(list: &Bytes, n: usize) {
+pub(crate) fn print_bytes<R: Read, W: Write>(
+    streams: &mut Streams<R, W>,
+    list: &Bytes,
+    n: usize,
+) -> io::Result<()> {
     let end = within(n);
-    let mut i: usize = 0;
-    while i < end {
-        print_byte(list[i]);
-        i += 1;
+    for entry in &list[..end] {
+        print_byte(streams, *entry)?;
     }
+    Ok(())
 }
 
-pub(crate) fn print_long(list: &LongBytes, n: usize) {
+pub(crate) fn print_long<R: Read, W: Write>(
+    streams: &mut Streams<R, W>,
+    list: &LongBytes,
+    n: usize,
+) -> io::Result<()> {
     let end = within_long(n);
-    let mut i: usize = 0;
-    while i < end {
-        print_byte(list[i]);
-        i += 1;
+    for entry in &list[..end] {
+        print_byte(streams, *entry)?;
     }
+    Ok(())
 }
 
 // one word, two hexadecimal digits a byte
-pub(crate) fn print_digits(list: &LongBytes, n: usize) {
-    print(b" ");
+pub(crate) fn print_digits<R: Read, W: Write>(
+    streams: &mut Streams<R, W>,
+    list: &LongBytes,
+    n: usize,
+) -> io::Result<()> {
+    print(streams, b" ")?;
     let end = within_long(n);
-    let mut i: usize = 0;
-    while i < end {
-        io::print_hex(STDOUT_FILENO, wide(list[i]), 2);
-        i += 1;
+    for byte in &list[..end] {
+        streams.write_hex(wide(*byte), 2)?;
     }
+    Ok(())
 }
 
-pub(crate) fn print_numbers(list: &Numbers, n: usize) {
+pub(crate) fn print_numbers<R: Read, W: Write>(
+    streams: &mut Streams<R, W>,
+    list: &Numbers,
+    n: usize,
+) -> io::Result<()> {
     let end = within(n);
-    let mut i: usize = 0;
-    while i < end {
-        print_u16(list[i]);
-        i += 1;
+    for entry in &list[..end] {
+        print_u16(streams, *entry)?;
     }
+    Ok(())
 }
 
-pub(crate) fn print_elements(list: &Elements, n: usize) {
+pub(crate) fn print_elements<R: Read, W: Write>(
+    streams: &mut Streams<R, W>,
+    list: &Elements,
+    n: usize,
+) -> io::Result<()> {
     let end = within(n);
-    let mut i: usize = 0;
-    while i < end {
-        print_i32(list[i]);
-        i += 1;
+    for entry in &list[..end] {
+        print_i32(streams, *entry)?;
     }
+    Ok(())
 }
 
-pub(crate) fn print_triples(list: &Triples, n: usize) {
+pub(crate) fn print_triples<R: Read, W: Write>(
+    streams: &mut Streams<R, W>,
+    list: &Triples,
+    n: usize,
+) -> io::Result<()> {
     let end = within(n);
-    let mut i: usize = 0;
-    while i < end {
-        print_triple(list[i]);
-        i += 1;
+    for entry in &list[..end] {
+        print_triple(streams, *entry)?;
     }
+    Ok(())
 }
 
-pub(crate) fn print_points(list: &Points, n: usize) {
+pub(crate) fn print_points<R: Read, W: Write>(
+    streams: &mut Streams<R, W>,
+    list: &Points,
+    n: usize,
+) -> io::Result<()> {
     let end = within(n);
-    let mut i: usize = 0;
-    while i < end {
-        print_point(list[i]);
-        i += 1;
+    for entry in &list[..end] {
+        print_point(streams, *entry)?;
     }
+    Ok(())
 }
 
-pub(crate) fn print_matrices(list: &Matrices, n: usize) {
+pub(crate) fn print_matrices<R: Read, W: Write>(
+    streams: &mut Streams<R, W>,
+    list: &Matrices,
+    n: usize,
+) -> io::Result<()> {
     let end = within(n);
-    let mut i: usize = 0;
-    while i < end {
-        print_rotation(list[i]);
-        i += 1;
+    for entry in &list[..end] {
+        print_rotation(streams, *entry)?;
     }
+    Ok(())
 }
 
-pub(crate) fn print_texts(list: &Texts, n: usize) {
+pub(crate) fn print_texts<R: Read, W: Write>(
+    streams: &mut Streams<R, W>,
+    list: &Texts,
+    n: usize,
+) -> io::Result<()> {
     let end = within(n);
-    let mut i: usize = 0;
-    while i < end {
-        print_text(list[i]);
-        i += 1;
+    for entry in &list[..end] {
+        print_text(streams, *entry)?;
     }
+    Ok(())
 }
 
-pub(crate) fn print_refused(k: usize) {
-    print(b" refused");
-    print_count(k);
+pub(crate) fn print_refused<R: Read, W: Write>(
+    streams: &mut Streams<R, W>,
+    k: usize,
+) -> io::Result<()> {
+    print(streams, b" refused")?;
+    print_count(streams, k)
 }
 
-pub(crate) fn print_verdict(v: Verdict) {
+pub(crate) fn print_verdict<R: Read, W: Write>(
+    streams: &mut Streams<R, W>,
+    v: Verdict,
+) -> io::Result<()> {
     match v {
-        Verdict::Accepted => print(b" accepted"),
-        Verdict::Refused(k) => print_refused(k),
+        Verdict::Accepted => print(streams, b" accepted"),
+        Verdict::Refused(k) => print_refused(streams, k),
     }
 }

@@ -1,5 +1,6 @@
 -- By the byte: the sum of its axis grows, and the others are read as they were stored.
 use mathlib.Core.Path.{◌≡◌, ◌∙◌, ap₂}
+use native.Mathlib.Omega.{arith}
 use lib.IntN.{◌+ℤ◌}
 use mir.ValLaws.{to_z-of_z}
 use mir.Val.{to_z, of_z}
@@ -26,4 +27,4 @@ returns-in-121 c =
 pub returns-in_default : goal.returns-in_default
 returns-in_default c =
     let t = c.args.t in
-    rw (back w32 c.sum-in_default.result c.sum-in_default.type_inv, small_back t.x c.requires.1.x, small_back t.y c.requires.1.y, ne_eqb _ 120 c.in_default.rest.0.1, ne_eqb _ 121 c.in_default.rest.1, c.sum-in_default.ensures ∙ ap₂ ◌+ℤ◌ (small_back t.z c.requires.1.z) (n_back (goal.at.returns-in_default c).Start))
+    rw (back w32 c.sum-in_default.result c.sum-in_default.type_inv, small_back t.x c.requires.1.x, small_back t.y c.requires.1.y, ne_eqb c.args.b 120 (omega arith), ne_eqb c.args.b 121 (omega arith), c.sum-in_default.ensures ∙ ap₂ ◌+ℤ◌ (small_back t.z c.requires.1.z) (n_back (goal.at.returns-in_default c).Start))

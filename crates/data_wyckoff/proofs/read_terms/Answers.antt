@@ -13,13 +13,13 @@ use Rattle.data_wyckoff.specs.declared.Row.{Row}
 use Rattle.data_wyckoff.proofs.Steps.{term_within, row_back}
 use Rattle.laws.specs.Tests.{so}
 use Rattle.data_wyckoff.proofs.read_terms.Goals as goal
-use Rattle.data_wyckoff.proofs.read_terms.Goals.{After-struct_known-6-1, Start}
+use Rattle.data_wyckoff.proofs.read_terms.Goals.{After-read_term-c, Start}
 
 size : (c : Start) → length c.args.text ≡ 64
 size c = search rules
 
 -- the three rows are those of the definition
-found : (c : After-struct_known-6-1) →
+found : (c : After-read_term-c) →
     Answer c.args.text
     c.read_term-a.result
     c.read_term-b.result
@@ -40,13 +40,10 @@ pub returns-then-a-b : goal.returns-then-a-b
 unfolding verdict_of found_none Passed HoldsAt
 returns-then-a-b c =
     let text = c.args.text in
-    let w = accepted (found (goal.at.returns-then-a-b c).After-struct_known-6-1) (rw (size (goal.at.returns-then-a-b c).Start) (so c.if-a-b.true)) in
-    let f = c.type_inv.a.1.1 in
-    let g = c.type_inv.b.1.1 in
-    let h = c.struct_told-then-a-b-2-1.given.1.1 in
-    let a = row_back c.read_term-a.result f.0.1 f.1.0.1 f.1.1.0.1 in
-    let b = row_back c.read_term-b.result g.0.1 g.1.0.1 g.1.1.0.1 in
-    let d = row_back c.read_term-c.result h.0.1 h.1.0.1 h.1.1.0.1 in (
+    let w = accepted (found (goal.at.returns-then-a-b c).After-read_term-c) (rw (size (goal.at.returns-then-a-b c).Start) (so c.if-a-b.true)) in
+    let a = row_back c.read_term-a.result (search rules) (search rules) (search rules) in
+    let b = row_back c.read_term-b.result (search rules) (search rules) (search rules) in
+    let d = row_back c.read_term-c.result (search rules) (search rules) (search rules) in (
       accept (text_conditions text) (pass (text_conditions text) 0 tt (λ f. f (w.0, w.1, w.2))) refl,
       (w.0, w.1, three-cons a b d ∙ w.3, w.4),
     )
@@ -56,4 +53,4 @@ unfolding verdict_of found_at_lem
 returns c =
     let text = c.args.text in
     let n : length text ≡ 64 = size (goal.at.returns c).Start in
-    (refuse (text_conditions text) 0 tt (refused (found (goal.at.returns c).After-struct_known-6-1) (rw n c.if-a-b.false)) (Refused 6) refl, (refl, refl))
+    (refuse (text_conditions text) 0 tt (refused (found (goal.at.returns c).After-read_term-c) (rw n c.if-a-b.false)) (Refused 6) refl, (refl, refl))

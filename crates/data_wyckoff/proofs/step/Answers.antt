@@ -1,9 +1,9 @@
 -- By the byte's class.
-use mathlib.Core.Logic.{⊎_elim}
 use mathlib.Core.Path.{◌∙◌}
 use native.Mathlib.Omega.{arith}
 use Rattle.data_wyckoff.proofs.Steps.{step_plus, step_minus, step_slash, step_digit, step_axis, step_other}
 use Rattle.data_wyckoff.proofs.step.Goals as goal
+use Rattle.data_wyckoff.proofs.step.Goals.{in_default-via-then-b-lt47, in_default-via-else-b-lt47+else-b-lt58+then-b-lt120, in_default-via-else-b-lt47+else-b-lt58+else-b-lt120+else-b-lt123}
 
 pub returns-in-43 : goal.returns-in-43
 returns-in-43 c = c.on_sign.ensures ∙ step_plus c.args.t c.args.b c.in-43.is
@@ -16,12 +16,18 @@ returns-in-47 c = c.on_slash.ensures ∙ step_slash c.args.t c.args.b c.in-47.is
 
 pub returns-in-48-to-57 : goal.returns-in-48-to-57
 returns-in-48-to-57 c =
-    let h = c.in-48-to-57 in ?
+    let a = c.args in
+    c.on_digit.ensures ∙ step_digit a.t a.b (omega arith) (omega arith)
 
 pub returns-in-120-to-122 : goal.returns-in-120-to-122
 returns-in-120-to-122 c =
-    let h = c.in-120-to-122 in ?
+    let a = c.args in
+    c.on_axis.ensures ∙ step_axis a.t a.b (omega arith) (omega arith)
 
 pub returns-in_default : goal.returns-in_default
 returns-in_default c =
-    let h = c.in_default in ?
+    let a = c.args in
+    c.outside.ensures
+    ∙ step_other a.t a.b (omega arith) (omega arith) (omega arith)
+    (λ h g. elim c.in_default.branch [ in_default-via-then-b-lt47 w ↦ omega arith | in_default-via-else-b-lt47+else-b-lt58+then-b-lt120 w ↦ omega arith | in_default-via-else-b-lt47+else-b-lt58+else-b-lt120+else-b-lt123 w ↦ omega arith ])
+    (λ h g. elim c.in_default.branch [ in_default-via-then-b-lt47 w ↦ omega arith | in_default-via-else-b-lt47+else-b-lt58+then-b-lt120 w ↦ omega arith | in_default-via-else-b-lt47+else-b-lt58+else-b-lt120+else-b-lt123 w ↦ omega arith ])
