@@ -2,11 +2,9 @@
 use mathlib.Core.Path.{◌≡◌, refl, sym, ap, ◌∙◌}
 use mathlib.Core.Bool.{true, false}
 use lib.Ieee.{Float, nan, inf, fin, binary64, of_bits, div, le, lt}
-use borrow.Author.Rules.{rules}
 use Rattle.definitions.specs.Real.{zero_f, one_f, sqrt}
 use Rattle.symmetrize_match.specs.Match.{IsBound}
-use Rattle.symmetrize_match.proofs.bound.bound.Statement.{statement}
-use Rattle.symmetrize_match.proofs.bound.bound.Tie as tie
+use Rattle.symmetrize_match.proofs.bound.bound.Goals as goal
 
 infinite : div binary64 one_f zero_f ≡ inf false
 unfolding div of_bits
@@ -25,20 +23,15 @@ above_zero = refl
 infinity : (p : Float) → IsBound p (div binary64 one_f zero_f)
 infinity p = rw infinite (record { above = above_zero; root = none_above p })
 
-returns : tie.Need-returns
-returns c = infinity c.before.before.before.args.symprec
+pub returns-then-sqrt-symprec : goal.returns-then-sqrt-symprec
+returns-then-sqrt-symprec c = infinity c.args.symprec
 
-returns-2 : tie.Need-returns-2
-returns-2 c =
+pub returns-then-b : goal.returns-then-b
+returns-then-b c =
     record {
-      above = c.before.before.if1.true;
-      root = ap (λ r. lt r c.before.before.before.args.symprec) (sym c.before.sqrt.ensures.0) ∙ c.if2.false;
+      above = c.if-b.true;
+      root = ap (λ r. lt r c.args.symprec) (sym c.sqrt.ensures.value) ∙ c.if-sqrt-symprec.false;
     }
 
-returns-3 : tie.Need-returns-3
-returns-3 c = infinity c.before.args.symprec
-
-pub bound_spec : {M : Type 1} → statement M
-bound_spec =
-    tie.close
-    (tie.spec (λ c κs. search rules) returns returns-2 returns-3)
+pub returns : goal.returns
+returns c = infinity c.args.symprec
