@@ -1,7 +1,7 @@
 -- A call that letters one design: what it returns goes with the design, not with the order of the permutations.
 use Rattle.std.specs.Prelude.{ℕ, ◌≡◌, ◌↔◌, T}
 use Rattle.std.proofs.Common.{sym, ap, ◌∙◌, subst}
-use Rattle.std.proofs.Math.Logic.{Iff·symm, Iff·trans}
+use Rattle.std.proofs.Math.Logic.Iff.{symm as iff_symm, trans as iff_trans}
 use Rattle.definitions.specs.Refusal.{Past, orbit_fit, Outcome, accepted}
 use Rattle.definitions.specs.Orbit.{multiplicities}
 use Rattle.definitions.specs.Wyckoff.{Lettering, Found, Unfit, sites_of, orbit_without_fit, letters}
@@ -58,7 +58,7 @@ module _ (c : LetteringCall) where
         let f' = k.found x' g' b' in
         let s = alike_sites a same f f' in
         record {
-          thirteen = Iff·trans (k.thirteen x g b o p) (Iff·trans (same_fits a same f f') (Iff·symm (k.thirteen x' g' b' o' p')));
+          thirteen = iff_trans (k.thirteen x g b o p) (iff_trans (same_fits a same f f') (iff_symm (k.thirteen x' g' b' o' p')));
           labels = λ r r' e e'. (answer_by x g b o p f r e).0 ∙ ap (λ t. t.labels) s ∙ sym (answer_by x' g' b' o' p' f' r' e').0;
           multiplicities = λ r r' e e'.
               (answer_by x g b o p f r e).1 ∙ ap (λ t. multiplicities t.labels) s ∙ sym (answer_by x' g' b' o' p' f' r' e').1;

@@ -11,11 +11,10 @@ use Rattle.definitions.specs.SiteCalls.{LetterArguments, bad_letter_counts, lett
 use Rattle.laws.specs.Tests.{so, not_so, or_left, or_right, neither}
 use Rattle.laws.specs.Verdicts.{HoldsAt, Passed, pass, found_at_lem, refuse, verdict_of}
 use Rattle.symmetrize_wyckoff.proofs.Given.{five_or}
-use borrow.Author.Rules.{rules}
-use Rattle.symmetrize_wyckoff.proofs.verdicts.given_verdict.Statement.{statement}
-use Rattle.symmetrize_wyckoff.proofs.verdicts.given_verdict.Tie as tie
+use Rattle.symmetrize_wyckoff.proofs.verdicts.given_verdict.Goals as goal
+use Rattle.symmetrize_wyckoff.proofs.verdicts.given_verdict.Goals.{Else-bad_floats, Else-bad_lists, Start}
 
-abbrev given : tie.Start → LetterArguments
+abbrev given : Start → LetterArguments
 given s =
     record {
       labelling =
@@ -54,65 +53,59 @@ counts_are x =
 -- ---- past each test
 
 past₂ :
-    (c : tie.Else2) (rooms : List ℕ) →
-    Passed (letter_conditions (given c.before.before.before.before.before.before.before.before) rooms) 1
+    (c : Else-bad_lists) (rooms : List ℕ) →
+    Passed (letter_conditions (given (goal.at.Else-bad_lists c).Start) rooms) 1
 unfolding Passed HoldsAt
 past₂ c rooms = (
   not_so
-      (counts_are (given c.before.before.before.before.before.before.before.before)
-      ∙ neither (sym c.before.before.before.bad_permutations.ensures ∙ c.before.before.if1.false)
-      (sym c.before.bad-lists.ensures ∙ c.if2.false)),
+      (counts_are (given (goal.at.Else-bad_lists c).Start)
+      ∙ neither (sym c.bad_permutations.ensures ∙ c.if-bad_permutations.false)
+      (sym c.bad_lists.ensures ∙ c.if-bad_lists.false)),
   tt,
 )
 
 past₃ :
-    (c : tie.Else3) (rooms : List ℕ) →
-    Passed (letter_conditions (given c.before.before.before.before.before.before.before.before.before.before)
+    (c : Else-bad_floats) (rooms : List ℕ) →
+    Passed (letter_conditions (given (goal.at.Else-bad_floats c).Start)
     rooms) 2
 unfolding HoldsAt
 past₃ c rooms =
-    pass _ 1 (past₂ c.before.before rooms) (not_so (sym c.before.bad-floats.ensures ∙ c.if3.false))
+    pass _ 1 (past₂ (goal.at.Else-bad_floats c).Else-bad_lists rooms) (not_so (sym c.bad_floats.ensures ∙ c.if-bad_floats.false))
 
 -- ---- the returns
 
-returns : tie.Need-returns
+pub returns-then-bad_permutations : goal.returns-then-bad_permutations
 unfolding verdict_of found_at_lem Passed HoldsAt
-returns c = λ rooms.
-    let x = given c.before.before.before.before.before.before in
+returns-then-bad_permutations c = λ rooms.
+    let x = given (goal.at.returns-then-bad_permutations c).Start in
     refuse (letter_conditions x rooms) 0 tt
-    (so (counts_are x ∙ or_left (others x) (sym c.before.bad_permutations.ensures ∙ c.if1.true))) (Refused 2)
+    (so (counts_are x ∙ or_left (others x) (sym c.bad_permutations.ensures ∙ c.if-bad_permutations.true))) (Refused 2)
     refl
 
-returns-2 : tie.Need-returns-2
+pub returns-then-bad_lists : goal.returns-then-bad_lists
 unfolding verdict_of found_at_lem Passed HoldsAt
-returns-2 c = λ rooms.
-    let x = given c.before.before.before.before.before.before.before.before in
+returns-then-bad_lists c = λ rooms.
+    let x = given (goal.at.returns-then-bad_lists c).Start in
     refuse (letter_conditions x rooms) 0 tt
-    (so (counts_are x ∙ or_right (permutations x) (sym c.before.bad-lists.ensures ∙ c.if2.true))) (Refused 2)
+    (so (counts_are x ∙ or_right (permutations x) (sym c.bad_lists.ensures ∙ c.if-bad_lists.true))) (Refused 2)
     refl
 
-returns-3 : tie.Need-returns-3
+pub returns-then-bad_floats : goal.returns-then-bad_floats
 unfolding verdict_of found_at_lem HoldsAt
-returns-3 c = λ rooms.
-    refuse (letter_conditions (given c.before.before.before.before.before.before.before.before.before.before)
-    rooms) 1 (past₂ c.before.before rooms) (so (sym c.before.bad-floats.ensures ∙ c.if3.true))
+returns-then-bad_floats c = λ rooms.
+    refuse (letter_conditions (given (goal.at.returns-then-bad_floats c).Start)
+    rooms) 1 (past₂ (goal.at.returns-then-bad_floats c).Else-bad_lists rooms) (so (sym c.bad_floats.ensures ∙ c.if-bad_floats.true))
     (Refused 4) refl
 
-returns-4 : tie.Need-returns-4
+pub returns-then-bad_sites : goal.returns-then-bad_sites
 unfolding verdict_of found_at_lem HoldsAt
-returns-4 c = λ rooms.
+returns-then-bad_sites c = λ rooms.
     refuse (letter_conditions
-    (given c.before.before.before.before.before.before.before.before.before.before.before.before) rooms) 2
-    (past₃ c.before.before rooms) (so (sym c.before.bad-sites.ensures ∙ c.if4.true))
+    (given (goal.at.returns-then-bad_sites c).Start) rooms) 2
+    (past₃ (goal.at.returns-then-bad_sites c).Else-bad_floats rooms) (so (sym c.bad_sites.ensures ∙ c.if-bad_sites.true))
     (Refused 5) refl
 
-returns-5 : tie.Need-returns-5
+pub returns : goal.returns
 unfolding HoldsAt
-returns-5 c =
-    λ rooms. pass _ 2 (past₃ c.before.before rooms) (not_so (sym c.before.bad-sites.ensures ∙ c.if4.false))
-
-pub given_verdict_spec : {M : Type 1} → statement M
-given_verdict_spec =
-    tie.close
-    (tie.spec (λ c κs. search rules) returns (λ c κs. search rules) returns-2 (λ c κs. search rules) returns-3
-    (λ c κs. search rules) returns-4 returns-5)
+returns c =
+    λ rooms. pass _ 2 (past₃ (goal.at.returns c).Else-bad_floats rooms) (not_so (sym c.bad_sites.ensures ∙ c.if-bad_sites.false))
