@@ -1,6 +1,6 @@
 -- From the call on lists to the call on bytes: where the bytes are a job's, what the one promises the other does.
 use Rattle.std.specs.Prelude.{ℕ, refl, List, T}
-use Rattle.std.proofs.Common.{sym, inl}
+use Rattle.std.proofs.Common.{sym, inl, inr}
 use Rattle.std.proofs.Math.Path.{subst}
 use Rattle.definitions.specs.declared.Standardized.{Standardized}
 use Rattle.definitions.specs.declared.Standardized.TheVariants.{Refused}
@@ -75,3 +75,4 @@ counts_promise bs p i is_job bad entry exit zero =
       where
         only : Applies (bytes_conditions bs (rooms_of entry)) job_bytes → NoJob bs
         only (inl n) = n
+        only (inr x) = elim x [ ]
