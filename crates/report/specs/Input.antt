@@ -13,10 +13,6 @@ use Rattle.laws.specs.Order.{numbered, refused_first}
 abbrev pub input_bytes : ℕ
 input_bytes = suc most_bytes
 
--- a buffer's first n bytes are in bounds, and are n bytes
-abbrev pub IsPrefixLen : ℕ → List ℕ → Type 0
-IsPrefixLen n xs = (n ≤ length xs) × (n ≡ length (take n xs))
-
 -- bytes that are no job's are refused with 1, and with no other number
 returns_one : (bs : List ℕ) → NoJob bs → BytesReturn bs ample (refused job_bytes)
 unfolding Returns Applies NoneOf upto precedence

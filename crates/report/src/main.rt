@@ -4,7 +4,8 @@
 
 ghost use Rattle.std.specs.Prelude.{◌≡◌, length, take, IfOk};
 ghost use Rattle.definitions.specs.WholeCalls.{ReportPromise};
-ghost use Rattle.report.specs.Input.{input_bytes, IsPrefixLen};
+ghost use Rattle.report.specs.Input.{input_bytes};
+ghost use Rattle.std.specs.Counts.{IsPrefixLen};
 
 use definitions::limits::{MOST_BYTES, MOST_LISTED, MOST_SITES};
 use job_standardize::standardize_bytes;

@@ -1,16 +1,13 @@
 -- A pattern above the infinity's is a NaN's, and so is 0 / 0.
 use Prim.Native.Nat.{ℕ, ◌%◌, ◌<◌}
 use mathlib.Core.Path.{◌≡◌, refl, sym, subst, ◌∙◌}
-use mathlib.Core.Bool.{Bool, true, false, not}
-use native.Mathlib.Omega.{arith}
-use borrow.Author.Rules.{rules}
+use mathlib.Core.Bool.{Bool, true, not}
 use borrow.Author.Tests.{lt-ltb, le-ltb}
 use lib.Dec.{T}
 use lib.Ieee as Ieee
-use lib.Ieee.{Float, nan, binary64, of_bits, div, is_nan, nan_bits}
+use lib.Ieee.{Float, nan, binary64, of_bits, div, is_nan}
 use lib.Ieee.Bits.{nan_bits_above, nan_bits_is}
-use Rattle.vectors.proofs.records.float_of.Statement.{statement}
-use Rattle.vectors.proofs.records.float_of.Tie as tie
+use Rattle.vectors.proofs.records.float_of.Goals as goal
 
 no_number : div binary64 (of_bits binary64 0) (of_bits binary64 0) ≡ nan
 unfolding div of_bits
@@ -25,15 +22,10 @@ is_nan_lem (Ieee.fin s m k) e = cc
 above_nan : (b : ℕ) → 0x7FF0000000000000 < b % 0x8000000000000000 → of_bits binary64 b ≡ nan
 above_nan b h = is_nan_lem (of_bits binary64 b) (sym (nan_bits_is binary64 b) ∙ nan_bits_above binary64 b ∙ lt-ltb 0x7FF0000000000000 (b % 0x8000000000000000) h)
 
-returns : tie.Need-returns
-returns c = no_number ∙ sym (above_nan c.before.args.bits c.if1.true)
+pub returns-then-bits-gt9218868437227405312 : goal.returns-then-bits-gt9218868437227405312
+returns-then-bits-gt9218868437227405312 c = no_number ∙ sym (above_nan c.args.bits c.if-bits-gt9218868437227405312.true)
 
-float-from-bits-result : tie.Need-float-from-bits-result
-float-from-bits-result c =
-    let b = c.before.args.bits in
-    subst (λ (v : Bool). T (not v)) (sym (nan_bits_above binary64 b ∙ le-ltb 0x7FF0000000000000 (b % 0x8000000000000000) c.if1.false)) tt
-
-pub float_of_spec : {M : Type 1} → statement M
-float_of_spec =
-    tie.close
-    (tie.spec returns float-from-bits-result (search rules))
+pub float_from_bits-result : goal.float_from_bits-result
+float_from_bits-result c =
+    let b = c.args.bits in
+    subst (λ (v : Bool). T (not v)) (sym (nan_bits_above binary64 b ∙ le-ltb 0x7FF0000000000000 (b % 0x8000000000000000) c.if-bits-gt9218868437227405312.false)) tt
