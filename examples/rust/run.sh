@@ -7,11 +7,11 @@ set -eu
 here=$(cd "$(dirname "$0")" && pwd -P)
 examples=$(dirname "$here")
 repo=$(dirname "$examples")
-library=$repo/target/staticlib
+library=$repo/crates/hoistgarlic/out
 work=$(mktemp -d)
 trap 'rm -rf "$work"' EXIT
 
-(cd "$repo" && rt staticlib hoistgarlic) >"$work/log" 2>&1 </dev/null || { cat "$work/log" >&2; exit 1; }
+(cd "$repo/crates/hoistgarlic" && rt lib hoistgarlic) >"$work/log" 2>&1 </dev/null || { cat "$work/log" >&2; exit 1; }
 
 rust() { rustc --edition 2021 -O -D warnings --out-dir "$work" "$@"; }
 rust --crate-type rlib -L native="$library" -l static=hoistgarlic "$here/hoistgarlic.rs"
