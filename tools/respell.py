@@ -25,6 +25,12 @@ told under unlike value was whole with within""".split())
 
 # names that the rule would let fall together, or would spell as a name of the library
 NAMES = {
+    "adjugateOf": "adjugate_of",
+    "applyOf": "apply_of",
+    "detOf": "det_of",
+    "inverseOf": "inverse_of",
+    "linearOf": "linear_of",
+    "sqrtF": "sqrt_f",
     "in-range": "is_in_range",
     "ofParts": "rule_of_parts",
     "end_after": "end_after_lem",
@@ -94,7 +100,7 @@ def table(top):
     known = LIBRARY | {snake(w) for w in words if "-" not in w and len(w) > 1} - PLAIN
     known |= {w for w in names if w[:1].isupper() and "-" not in w}
     to = {}
-    for n in names:
+    for n in names | set(NAMES):
         if n in NAMES:
             to[n] = NAMES[n]
             continue

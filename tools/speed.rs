@@ -1,6 +1,6 @@
 // Measures the proved rounding and square root beside the machine's, in nanoseconds a call, on the same random inputs:
-//     rt staticlib speed_float
-//     rustc -O speed.rs -L ../target/staticlib -l static=speed_float && ./speed
+//     (cd ../crates/speed_float && rt lib speed_float)
+//     rustc -O speed.rs -L ../crates/speed_float/out -l static=speed_float && ./speed
 // Each figure is the least of nine runs; every answer is also compared.
 use std::hint::black_box;
 use std::time::Instant;

@@ -1,4 +1,4 @@
-/* The calls of Hoistgarlic's static library (`rt staticlib hoistgarlic`); what each promises stands in
+/* The calls of Hoistgarlic's static library (`rt lib` in crates/hoistgarlic); what each promises stands in
  * crates/hoistgarlic/src/lib.rt. Each returns 0 for an accepted answer, or the number of the refusal, 1 to 13; after a
  * refusal everything that was lent to be written is 0, and so is what lies behind an answer.
  *

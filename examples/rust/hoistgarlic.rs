@@ -1,7 +1,7 @@
 //! Hoistgarlic's calls for a Rust program: the static library's C names, a safe function over each.
 //!
 //! This file can be taken over as it is; beside it a program links `libhoistgarlic.a`, which
-//! `rt staticlib hoistgarlic` builds (run.sh shows how). What each call promises of its answer, and
+//! `rt lib` in crates/hoistgarlic builds (run.sh shows how). What each call promises of its answer, and
 //! of every refusal, stands in crates/hoistgarlic/src/lib.rt.
 use std::fmt;
 

@@ -13,8 +13,8 @@ repo=$(cd "$here/../.." && pwd)
 oracle=$(cd "$1" && pwd)
 shift
 if [ -z "${LIBRARY:-}" ]; then
-    (cd "$repo" && rt staticlib hoistgarlic)
-    LIBRARY=$repo/target/staticlib
+    (cd "$repo/crates/hoistgarlic" && rt lib hoistgarlic)
+    LIBRARY=$repo/crates/hoistgarlic/out
 fi
 work=$(mktemp -d)
 trap 'rm -rf "$work"' EXIT

@@ -5,7 +5,7 @@
 pub mod cell;
 
 ghost use Rattle.std.specs.Prelude.{◌≡◌, ◌*◌, ◌/◌, ◌%◌, ◌<◌, ◌≤◌, true, [], ◌∷◌, ◌++◌, map, length, drop, pos};
-ghost use Rattle.definitions.specs.Matrix.{apply as applyOf};
+ghost use Rattle.definitions.specs.Matrix.{apply as apply_of};
 ghost use Rattle.definitions.specs.Refusal.{Checked, padded};
 ghost use Rattle.definitions.specs.Calls.{transform_conditions, points_conditions};
 ghost use Rattle.definitions.specs.Calls.{RotationPromise, PointsPromise, FactorsPromise};
@@ -82,7 +82,7 @@ fn digits(k: usize, b: usize, c: usize) -> [i16; 3]
 fn put_points(m: Cofactors, a: usize, b: usize, c: usize, out: &mut [Point]) -> usize
     requires { (0 < a * b * c) × (a * b * c ≤ 64) × (a * b * c ≤ length out.old) }
     ensures { (result ≡ a * b * c)
-        × (out.new ≡ map (applyOf m) (box a b c) ++ drop (a * b * c) out.old) }
+        × (out.new ≡ map (apply_of m) (box a b c) ++ drop (a * b * c) out.old) }
 {
     let n = a * b * c;
     let mut k: usize = 0;

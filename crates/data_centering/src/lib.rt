@@ -2,7 +2,7 @@
 #![tactic(auto)]
 
 ghost use Rattle.std.specs.Prelude.{◌≡◌};
-ghost use Rattle.definitions.specs.Centering.{linear as linearOf};
+ghost use Rattle.definitions.specs.Centering.{linear as linear_of};
 
 use definitions::Centering;
 
@@ -21,7 +21,7 @@ const R: [[i8; 3]; 3] = [[1, 0, 1], [-1, 1, 1], [0, -1, 1]];
 const F: [[i8; 3]; 3] = [[-1, 1, 1], [1, -1, 1], [1, 1, -1]];
 
 pub fn linear(centering: Centering) -> [[i8; 3]; 3]
-    ensures { result ≡ linearOf centering }
+    ensures { result ≡ linear_of centering }
 {
     match centering {
         Centering::P => P,

@@ -1,4 +1,4 @@
-// The calls under C names, for a program in C or Rust to link: `rt staticlib hoistgarlic`.
+// The calls under C names, for a program in C or Rust to link: `rt lib` in this folder.
 // A slice is a pointer and a length there, an array behind a reference a pointer.
 #![tactic(auto)]
 

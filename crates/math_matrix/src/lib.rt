@@ -4,8 +4,8 @@
 
 ghost use Rattle.std.specs.Prelude.{◌≡◌, ℕ, ◌≤◌, ◌<◌, ℤ, nat_abs, ◌*ℤ◌};
 ghost use Rattle.definitions.specs.Matrix.{at, item, three, minor, unit, mul_m};
-ghost use Rattle.definitions.specs.Matrix.{det as detOf, adjugate as adjugateOf};
-ghost use Rattle.definitions.specs.Matrix.{inverse as inverseOf, apply as applyOf};
+ghost use Rattle.definitions.specs.Matrix.{det as det_of, adjugate as adjugate_of};
+ghost use Rattle.definitions.specs.Matrix.{inverse as inverse_of, apply as apply_of};
 ghost use Rattle.math_matrix.specs.Rows.{minors_of, dot_of, row_times};
 
 use definitions::{Cofactors, Integers, Linear, Point, Rotation, SnfMatrix};
@@ -53,7 +53,7 @@ fn minors(m: SnfMatrix, a: usize, b: usize) -> [i32; 3]
 }
 
 pub fn adjugate(m: SnfMatrix) -> Cofactors
-    ensures { result ≡ adjugateOf m }
+    ensures { result ≡ adjugate_of m }
 {
     let r0 = minors(m, 1, 2);
     let r1 = minors(m, 2, 0);
@@ -76,7 +76,7 @@ fn row_dot(x: [i32; 3], a: [i16; 3]) -> i64
 }
 
 pub fn apply(m: Cofactors, f: [i16; 3]) -> Point
-    ensures { result ≡ applyOf m f }
+    ensures { result ≡ apply_of m f }
 {
     let x = row_dot(m[0], f);
     let y = row_dot(m[1], f);
@@ -92,7 +92,7 @@ fn column(m: SnfMatrix, j: usize) -> [i16; 3]
 }
 
 pub fn determinant(m: SnfMatrix) -> i64
-    ensures { result ≡ detOf m }
+    ensures { result ≡ det_of m }
 {
     row_dot(minors(m, 1, 2), column(m, 0))
 }
@@ -114,7 +114,7 @@ fn signed_minors(k: i64, m: SnfMatrix, a: usize, b: usize) -> [i32; 3]
 }
 
 pub fn inverse(m: SnfMatrix) -> Cofactors
-    ensures { result ≡ inverseOf m }
+    ensures { result ≡ inverse_of m }
 {
     let k = determinant(m);
     let r0 = signed_minors(k, m, 1, 2);
@@ -164,7 +164,7 @@ fn row_times_both(x: [i16; 3], r: SnfMatrix, t: SnfMatrix) -> [i64; 3]
 
 // The inverse where t is unimodular: a minor of numbers of 8 bits has 16.
 pub fn unimodular_inverse(t: Linear) -> SnfMatrix
-    ensures { result ≡ inverseOf t }
+    ensures { result ≡ inverse_of t }
 {
     let i = inverse(widened(t));
     let r0 = short_row(i[0]);
@@ -186,7 +186,7 @@ pub fn transform_by(i: SnfMatrix, t: SnfMatrix, r: Rotation) -> Integers
 
 // t⁻¹ r t (moyo's `UnimodularTransformation::transform_operation`)
 pub fn transform(t: Linear, r: Rotation) -> Integers
-    ensures { result ≡ mul_m (mul_m (inverseOf t) r) t }
+    ensures { result ≡ mul_m (mul_m (inverse_of t) r) t }
 {
     transform_by(unimodular_inverse(t), widened(t), r)
 }

@@ -4,7 +4,7 @@
 #![tactic(auto)]
 
 ghost use Rattle.std.specs.Prelude.{◌≡◌, ◌+◌, ◌*◌, ◌≤◌, ◌<◌, ◌^◌};
-ghost use Rattle.definitions.specs.Real.{IsSqrt, root_cut, root_pattern, root_of_fields, sqrt as sqrtF};
+ghost use Rattle.definitions.specs.Real.{IsSqrt, root_cut, root_pattern, root_of_fields, sqrt as sqrt_f};
 ghost use Rattle.math_sqrt.specs.Root.{IsRoot, Cut};
 
 // the root of the digits so far, cut, and what is left
@@ -130,7 +130,7 @@ fn root_of_fields(x: u64, t: u64) -> u64
 
 // IEEE 754's square root, rounded to nearest
 pub fn sqrt(x: f64) -> f64
-    ensures value { result ≡ sqrtF x }
+    ensures value { result ≡ sqrt_f x }
     ensures nearest { IsSqrt x result }
 {
     if x != x {

@@ -2,7 +2,7 @@
 #![tactic(auto)]
 
 ghost use Rattle.std.specs.Prelude.{◌≡◌};
-ghost use Rattle.definitions.specs.Real.{round_away, sqrt as sqrtF};
+ghost use Rattle.definitions.specs.Real.{round_away, sqrt as sqrt_f};
 
 use math_round::round;
 use math_sqrt::sqrt;
@@ -16,7 +16,7 @@ pub extern "C" fn speed_float_round(x: f64) -> f64
 
 #[unsafe(no_mangle)]
 pub extern "C" fn speed_float_sqrt(x: f64) -> f64
-    ensures { result ≡ sqrtF x }
+    ensures { result ≡ sqrt_f x }
 {
     sqrt(x)
 }
