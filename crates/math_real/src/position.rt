@@ -38,16 +38,19 @@ pub fn apply(m: Basis, p: Position) -> Position
     }
 }
 
-// A float between -1 and 1 is its own remainder: a division is spared where coordinates are reduced already.
+// A float between -1 and 1 is its own remainder: a division is spared where coordinates are reduced already. Another is
+// less its whole part, of its size and then with its sign: `%` would be the C library's `fmod`.
 fn modulo_one(x: f64) -> f64
     ensures { result ≡ reduced x }
 {
-    if -1.0 < x {
-        if x < 1.0 {
+    if x < 1.0 {
+        if -1.0 < x {
             return x;
         }
+        let size = -x;
+        return -(size - size.trunc());
     }
-    x % 1.0
+    x - x.trunc()
 }
 
 // each coordinate modulo 1, with its own sign
