@@ -4,3 +4,7 @@ pub mod Firsts
 pub mod Tables
 pub mod Groups
 pub mod Accepted
+pub mod Classes
+pub mod ClassLabels
+pub mod Rearranged
+pub mod Labelling

@@ -1,18 +1,16 @@
 -- The labels of listed sites: computed from the classes, unique, and what they say.
-use Rattle.std.specs.Prelude.{ℕ, zero, suc, ◌≤◌, ◌<◌, ◌≡◌, refl, Bool, true, false, ◌↔◌, length, T, ltb, eqb}
+use Rattle.std.specs.Prelude.{ℕ, zero, suc, ◌≤◌, ◌<◌, ◌≡◌, refl, Bool, true, false, ◌↔◌, length, eqb}
 use Rattle.std.proofs.Math.Path.{sym}
-use Rattle.std.proofs.Common.{◌∙◌, subst, le_of_suc-le-suc, not-suc-le-zero, arith, eqb-true, eq-eqb, ltb→lt, ext_get_or}
+use Rattle.std.proofs.Common.{◌∙◌, subst, le_of_suc-le-suc, not-suc-le-zero, arith, eqb-true, eq-eqb, ext_get_or}
 use mathlib.Core.List.{List, [], ◌∷◌, map, Memᴰ}
 use Rattle.std.proofs.lemmas.Bool.{eqb-false}
 use Rattle.std.proofs.Math.ListN.{get_or, length-map}
-use Rattle.definitions.specs.Lists.{all, those, up_to}
-use Rattle.definitions.specs.Permutation.{is_permutation}
-use Rattle.definitions.specs.Orbit.{Joined, none, primitive_of, IsLabel, Labels, orbit, orbits, multiplicities}
+use Rattle.definitions.specs.Lists.{those, up_to}
+use Rattle.definitions.specs.Orbit.{Joined, none, primitive_of, IsLabel, Labels, orbit, orbits}
 use Rattle.definitions.specs.Demand.{JoinTheSame}
-use Rattle.laws.specs.Lists.{map_at, all_at, those-up_to}
+use Rattle.laws.specs.Lists.{map_at, those-up_to}
 use Rattle.base_cell.specs.Joined.{joined_trans, joined_sym}
-use Rattle.base_cell.specs.Maps.{AllMap, permutations-all, permutations-map}
-use Rattle.base_cell.specs.Classes.{Decides, classes, classes_right}
+use Rattle.base_cell.specs.Classes.{Decides}
 
 -- ---- computed
 
@@ -129,19 +127,6 @@ labels_by_lem n ps cs decides mapping inside = record { each = length-map ds (λ
         (sym (map_at (λ c. place c ds) ds j 0 0 hj))
         (is_label j (place (get_or ds j 0) ds) h (place_first (get_or ds j 0) ds j hj refl))
 
-pub labels_right :
-    (n : ℕ) (ps : List (List ℕ)) → AllMap n ps → (mapping : List ℕ) → ((k : ℕ) → k < length mapping → primitive_of mapping k < n) →
-    Labels ps mapping (labels_by (classes n ps) mapping)
-labels_right n ps maps = labels_by_lem n ps (classes n ps) (classes_right n ps maps)
-
--- the same where the two conditions are computed
-pub labels_computed :
-    (n : ℕ) (ps : List (List ℕ)) (mapping : List ℕ) → T (all (is_permutation n) ps) → T (all (λ s. ltb s n) mapping) →
-    Labels ps mapping (labels_by (classes n ps) mapping)
-labels_computed n ps mapping h g =
-    labels_right n ps (permutations-map (permutations-all n ps h)) mapping
-    (λ k l. ltb→lt (primitive_of mapping k) n (all_at (λ s. ltb s n) mapping k 0 g l))
-
 -- ---- unique
 
 pub label_unique : {ps : List (List ℕ)} {mapping : List ℕ} {j l m : ℕ} → IsLabel ps mapping j l → IsLabel ps mapping j m → l ≡ m
@@ -227,27 +212,3 @@ same_joins_same_labels {ps} {qs} {mapping} {ls} same a = record { each = a.each;
           joined = (same (primitive_of mapping l) (primitive_of mapping j)).0 b.joined;
           least = λ k h r. b.least k h ((same (primitive_of mapping k) (primitive_of mapping j)).1 r);
         }
-
--- ---- an example
-
--- the permutation 1 0 2 4 3 of five sites, two copies each
-abbrev swaps : List (List ℕ)
-swaps = (1 ∷ 0 ∷ 2 ∷ 4 ∷ 3 ∷ []) ∷ []
-
-abbrev pairs : List ℕ
-pairs = 0 ∷ 0 ∷ 1 ∷ 1 ∷ 2 ∷ 2 ∷ 3 ∷ 3 ∷ 4 ∷ 4 ∷ []
-
-abbrev pair_labels : List ℕ
-pair_labels = 0 ∷ 0 ∷ 0 ∷ 0 ∷ 4 ∷ 4 ∷ 6 ∷ 6 ∷ 6 ∷ 6 ∷ []
-
-example_computed : labels_by (classes 5 swaps) pairs ≡ pair_labels
-unfolding labels_by classes
-example_computed = refl
-
-example_labels : Labels swaps pairs pair_labels
-unfolding all is_permutation
-example_labels = rw (sym example_computed) (labels_computed 5 swaps pairs tt tt)
-
-example_multiplicities : multiplicities pair_labels ≡ 4 ∷ 4 ∷ 4 ∷ 4 ∷ 2 ∷ 2 ∷ 4 ∷ 4 ∷ 4 ∷ 4 ∷ []
-unfolding multiplicities
-example_multiplicities = refl

@@ -1,15 +1,14 @@
 -- The order of the permutations, repeats and added products of two change nothing in what they join.
 use Rattle.std.specs.Prelude.{ℕ, ◌≤◌, ◌<◌, ◌≡◌, refl, Bool, true, false, ltb, length}
-use Rattle.std.proofs.Common.{sym, ap, ◌∙◌, subst, arith, ltb-true, ltb-false}
-use mathlib.Core.List.Memᴰ
-use mathlib.Core.List.{List, [], ◌∷◌, Memᴰ}
+use Rattle.std.proofs.Common.{sym, ◌∙◌, subst, arith, ltb-true, ltb-false}
+use mathlib.Core.List.{List}
 use Rattle.std.proofs.lemmas.List.{length-map}
-use Rattle.definitions.specs.Permutation.{image, after}
+use Rattle.definitions.specs.Permutation.{image}
 use Rattle.definitions.specs.Orbit.{Step, Joined, none, forth, back}
 use Rattle.definitions.specs.Demand.{JoinTheSame, JoinTheSameBelow, Rearranged, Made, given, product}
 use Rattle.laws.specs.Lists.{map_at}
 use Rattle.base_cell.specs.Joined.{joined_step, joined_trans, joined_by}
-use Rattle.base_cell.specs.Maps.{AllMap, Permutations, permutation_maps, permutations-map}
+use Rattle.base_cell.specs.Maps.{AllMap, Permutations, permutations-map}
 
 -- a made permutation maps n sites to themselves, and takes each to one joined with it
 record Goes (n : ℕ) (ps : List (List ℕ)) (q : List ℕ) : Type 0 where
@@ -44,14 +43,6 @@ rearranged_joins n {ps} {qs} pp pq re i j =
   where
     kept : (i j : ℕ) → Step ps i j → Joined qs i j
     kept i j s = joined_step (record { permutation = s.permutation; listed = re.kept s.permutation s.listed; within = s.within; to = s.to })
-
--- The lists share a permutation, so they are of one number of sites; or they are empty.
-pub any_size : (n n' : ℕ) (ps qs : List (List ℕ)) → Permutations n ps → Permutations n' qs → Rearranged ps qs → JoinTheSame ps qs
-any_size n n' [] qs a b re = rearranged_joins n' (λ p m. absurd (Memᴰ.not-nil m)) b re
-any_size n n' (p ∷ ps) qs a b re = rearranged_joins n a (subst (λ k. Permutations k qs) (sym size) b) re
-  where
-    size : n ≡ n'
-    size = sym (permutation_maps n p (a p (Memᴰ.head refl))).size ∙ (permutation_maps n' p (b p (re.kept p (Memᴰ.head refl)))).size
 
 -- ---- joined below the number of sites
 

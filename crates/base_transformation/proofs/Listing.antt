@@ -16,7 +16,7 @@ use Rattle.definitions.specs.SiteCalls.{CopiesListed, list_conditions, IsListing
 use Rattle.laws.specs.Verdicts.{promise_accepted, promise_refused}
 use Rattle.math_matrix.specs.Laws.{Three}
 use Rattle.base_transformation.specs.Answers.{points_of, Ended, Ready}
-use Rattle.base_transformation_laws.specs.Covered.{run-points-count}
+use Rattle.base_transformation_laws.proofs.Covered.{run-points-count}
 use Rattle.base_transformation.specs.Runs.{run_cells}
 use Rattle.base_transformation.specs.Copied.{list_facts}
 use Rattle.base_transformation.proofs.Points.{run-points}

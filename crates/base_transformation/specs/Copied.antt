@@ -22,7 +22,7 @@ use Rattle.laws.specs.Lists.{map_at, length-each, each_at, place_below}
 use Rattle.laws.specs.Order.{numbered, FailAll, past}
 use Rattle.laws.specs.Tests.{off, neither_left, neither_right}
 use Rattle.math_matrix.specs.Laws.{Three}
-use Rattle.base_transformation_laws.specs.Listed.{listing-copies}
+use Rattle.base_transformation_laws.proofs.Listed.{listing-copies}
 
 -- the conditions that an accepted call is past
 pub record ListFacts (c : Matrix) (es : List ℤ) (ps : List (List Float)) (rooms : List ℕ) : Type 0 where

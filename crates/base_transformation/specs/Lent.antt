@@ -15,7 +15,7 @@ use Rattle.definitions.specs.Demand.{ExactlyOne, DifferByWhole, Covers}
 use Rattle.definitions.specs.Limits.{copies}
 use Rattle.math_matrix.specs.Laws.{Three}
 use Rattle.definitions.specs.Lent.{zero_point}
-use Rattle.base_transformation_laws.specs.Covered.{run-points-count, run_point_covers, run_covers}
+use Rattle.base_transformation_laws.proofs.Covered.{run-points-count, run_point_covers, run_covers}
 use Rattle.laws.specs.Order.{numbered, FailAll, past}
 use Rattle.laws.specs.Tests.{off, neither_left, neither_right}
 use Rattle.laws.specs.Filling.{length-padded}

@@ -2,7 +2,5 @@
 pub mod Residues
 pub mod Box
 pub mod Smith
-pub mod Points
-pub mod Covered
 pub mod Listed
 pub mod Rotations

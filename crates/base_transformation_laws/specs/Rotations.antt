@@ -15,7 +15,8 @@ use Rattle.definitions.specs.Limits.{in_range}
 use Rattle.definitions.specs.Matrix.{Matrix, identity, mul_m, transpose, det, inverse}
 use Rattle.definitions.specs.Transformation.{transform_rotation}
 use Rattle.definitions.specs.Calls.{transform_conditions, RotationPromise}
-use Rattle.laws.specs.Order.{numbered, checked_unique}
+use Rattle.laws.specs.Order.{numbered}
+use Rattle.laws.proofs.Order.{checked_unique}
 use Rattle.laws.specs.Verdicts.{untested, is_true, is_false, verdict_of, checked}
 use Rattle.math_matrix.specs.Laws.{Three, mul_assoc, identity-mul, mul-identity, mul-inverse}
 use Rattle.math_matrix.specs.Laws.{det-inverse, unit-mul, inverse_product}
@@ -97,6 +98,15 @@ identity_in_range = refl
 
 -- ---- of the call
 
+-- transforming by the product accepts, with what the second gives of what the first gave
+by_both :
+    (t u r : Matrix) → UnimodularInRange t → UnimodularInRange u → in_range (mul_m t u) ≡ true → in_range r ≡ true →
+    (between : Matrix) → Accepts t r between → Accepts (mul_m t u) r (transform_rotation u between)
+by_both t u r h g i j between first =
+    let direct = accepts (mul_m t u) r (record { is_in_range = i; unit = unit-mul t u h.unit g.unit }) j in
+    let same = by_product t u r h.unit g.unit ∙ ap (transform_rotation u) (sym (answer first)) in
+    subst (Accepts (mul_m t u) r) same direct
+
 -- "For unimodular matrices in range whose product is also in range, transforming a rotation by the first and then the
 -- second equals transforming it by the product, provided the rotation between the moves is in range."
 pub transformed_twice :
@@ -105,10 +115,7 @@ pub transformed_twice :
     in_range between ≡ true → (x : Matrix) × Accepts t r between × Accepts u between x × Accepts (mul_m t u) r x
 transformed_twice t u r h g i j between v p k =
     let first = returned t r h j between v p in
-    let second = accepts u between g k in
-    let direct = accepts (mul_m t u) r (record { is_in_range = i; unit = unit-mul t u h.unit g.unit }) j in
-    let same = by_product t u r h.unit g.unit ∙ ap (transform_rotation u) (sym (answer first)) in
-    (transform_rotation u between, first, second, subst (Accepts (mul_m t u) r) same direct)
+    (transform_rotation u between, first, accepts u between g k, by_both t u r h g i j between first)
 
 -- "A change and its inverse, both in range, restore the rotation, again if the rotation between them is in range": R
 -- has three rows of three, as its type says.
@@ -120,10 +127,12 @@ transformed_back t r shape h g j between v p k =
     let one : mul_m t (inverse t) ≡ identity = mul-inverse t h.unit in
     let unit = ap nat_abs (det-inverse t h.unit) ∙ h.unit in
     let both : in_range (mul_m t (inverse t)) ≡ true = ap in_range one ∙ identity_in_range in
-    let (x, first, second, direct) =
-    transformed_twice t (inverse t) r h (record { is_in_range = g; unit = unit }) both j between v p k in
-    let same : x ≡ r = answer direct ∙ ap (λ (m : Matrix). transform_rotation m r) one ∙ by_identity r shape in
-    (first, subst (Accepts (inverse t) between) same second)
+    let first = returned t r h j between v p in
+    let back : UnimodularInRange (inverse t) = record { is_in_range = g; unit = unit } in
+    let direct = by_both t (inverse t) r h back both j between first in
+    let same : transform_rotation (inverse t) between ≡ r =
+    answer direct ∙ ap (λ (m : Matrix). transform_rotation m r) one ∙ by_identity r shape in
+    (first, subst (Accepts (inverse t) between) same (accepts (inverse t) between back k))
 
 -- "Where two rotations and their product are in range, transforming the product gives the product of the transformed
 -- ones", which need not be in range.

@@ -1,28 +1,26 @@
 -- The origin of a triplet is what IEEE 754 makes of its constants: OriginIsTheSum, WholeConstantsAreExact,
 -- OriginIsRoundedOnce; and each constant is the nearest float.
-use Rattle.std.specs.Prelude.{ℕ, zero, suc, ◌+◌, ◌-◌, ◌*◌, ◌/◌, ◌%◌, ◌^◌, ◌≤◌, ◌<◌, ◌≡◌, refl, Bool, true, false, ◌&&◌, ◌||◌, ◌⊎◌, T, leb, ltb, eqb, ℤ, pos, negsuc, neg_ℤ, nat_abs, ◌+ℤ◌, length, Float}
+use Rattle.std.specs.Prelude.{ℕ, zero, suc, ◌+◌, ◌-◌, ◌*◌, ◌/◌, ◌%◌, ◌^◌, ◌≤◌, ◌<◌, ◌≡◌, refl, Bool, true, false, ◌&&◌, ◌||◌, ◌⊎◌, T, leb, ltb, eqb, ℤ, pos, negsuc, neg_ℤ, nat_abs, Float}
 use Rattle.std.proofs.Common.{sym, ◌∙◌, subst, inl, inr, le_of_suc-le-suc, not-suc-le-zero, le_of_lt, lt_of_not-le, not-le_of_lt, mul-one, mul_assoc, mul-le-mul_left, mul-le-mul_right, zero-mul, div-one, arith, lt-ltb, ltb-true, ltb-false, leb→le, ltb→lt, eqb→eq, lit<, pow_pos, pow-add, pow_mono}
 use Rattle.std.proofs.Math.Path.{ap}
 use Rattle.std.specs.Bool.{beq}
-use mathlib.Core.List.{List, [], ◌∷◌, map, foldl, Memᴰ}
 use Rattle.std.proofs.Math.Nat.{pow-succ', mul_right_comm, mul-div_cancel, zero-div}
 use Rattle.std.proofs.Math.Pow.{pow-lt}
-use Rattle.std.proofs.Math.IntN.{+ℤ_idl, +ℤ_idr}
 use Rattle.std.specs.Float.{nan, inf, fin, binary64}
 use Rattle.std.specs.Float.Ieee.{up, down, size, fits, round, add, div, of_int, to_bits, of_bits}
-use Rattle.std.specs.Float.Ieee.Fits.{down_pos, round-fits, add-fits, div-fits}
+use Rattle.std.specs.Float.Ieee.Fits.{down_pos, round-fits, div-fits}
 use Rattle.std.specs.Float.Ieee.Exact.{HasValue}
 use Rattle.std.specs.Float.Ieee.Back.{round_whole}
 use Rattle.std.specs.Float.Ieee.Bits.{of_bits-to_bits}
-use Rattle.definitions.specs.Lists.{all, up_from, up_to, those}
-use Rattle.definitions.specs.Real.{zero_f, real_of, units_of, is_finite, negative}
-use Rattle.definitions.specs.Coordinates.{Item, Signed, items, item_of, is_item, is_constant, constants, numerator, denominator, signed_by, add_constant, rounded, constant_value, OriginIsTheSum, WholeConstantsAreExact, OriginIsRoundedOnce}
-use Rattle.laws.specs.Lists.{all_head, all_tail, all_mem, in_up_to, from_those}
+use Rattle.definitions.specs.Lists.{all, up_from, up_to}
+use Rattle.definitions.specs.Real.{real_of, units_of, is_finite, negative}
+use Rattle.definitions.specs.Coordinates.{Item, Signed, item_of, is_item, is_constant, numerator, denominator, signed_by, add_constant, rounded, constant_value, WholeConstantsAreExact}
+use Rattle.laws.specs.Lists.{all_mem, in_up_to}
 use Rattle.laws.specs.Tests.{both_pass, and_right}
 
 -- ---- a test of the constants, computed for ten numerators, nine denominators and two signs
 
-abbrev exact_in : Item → ℕ
+abbrev pub exact_in : Item → ℕ
 exact_in i = 2520 / denominator i * numerator i
 
 -- the test is of a numerator a, of e, which is a / d in units of 1 / 2520, and of the denominator d
@@ -36,7 +34,7 @@ module _ (test : ℤ → ℤ → ℕ → Bool) where
   abbrev over : ℕ → Bool
   over n = all (λ d. plus_test n (suc d) && minus_test n (suc d)) (up_to 9)
 
-  abbrev every : Bool
+  abbrev pub every : Bool
   every = all over (up_to 10)
 
   of_fraction : T every → (n d : ℕ) → n < 10 → 0 < d → d < 10 → T (plus_test n d) × T (minus_test n d)
@@ -55,18 +53,18 @@ module _ (test : ℤ → ℤ → ℕ → Bool) where
       let l = both_pass (ltb 0 d) (ltb d 10) k.1 in
       of_fraction t n d (ltb→lt n 10 k.0) (ltb→lt 0 d l.0) (ltb→lt d 10 l.1)
 
-  at : T every → (i : Signed) → T (is_item (item_of i)) → T (test (signed_by numerator i) (signed_by exact_in i) (denominator (item_of i)))
+  pub at : T every → (i : Signed) → T (is_item (item_of i)) → T (test (signed_by numerator i) (signed_by exact_in i) (denominator (item_of i)))
   at t (Signed.plus i) h = (of_item t i h).0
   at t (Signed.minus i) h = (of_item t i h).1
 
 -- two floats are compared by their patterns
-abbrev same : Float → Float → Bool
+abbrev pub same : Float → Float → Bool
 same v w = eqb (to_bits binary64 v) (to_bits binary64 w)
 
-same_is : (v w : Float) → T (fits binary64 v) → T (fits binary64 w) → T (same v w) → v ≡ w
+pub same_is : (v w : Float) → T (fits binary64 v) → T (fits binary64 w) → T (same v w) → v ≡ w
 same_is v w f g h = sym (of_bits-to_bits binary64 v f) ∙ ap (of_bits binary64) (eqb→eq (to_bits binary64 v) (to_bits binary64 w) h) ∙ of_bits-to_bits binary64 w g
 
-rounded_fits : (a : ℤ) (d : ℕ) → T (fits binary64 (rounded a d))
+pub rounded_fits : (a : ℤ) (d : ℕ) → T (fits binary64 (rounded a d))
 rounded_fits (pos n) d = round-fits binary64 false n d
 rounded_fits (negsuc n) d = round-fits binary64 true (suc n) d
 
@@ -117,75 +115,6 @@ whole_constants_are_exact (suc n) h =
     let k = whole_value false (suc n) h in
     let l = whole_value true (suc n) h in
     (k.0, l.0, k.1, l.1 ∙ sym (lt-ltb 0 (suc n) (omega arith)))
-
--- ---- their sum
-
-abbrev is_one : Signed → Bool
-is_one i = is_constant (item_of i)
-
-abbrev exact_sum : ℤ → List Signed → ℤ
-exact_sum e l = foldl ◌+ℤ◌ e (map (signed_by exact_in) l)
-
--- the origin, and the exact sum, of all items are those of the constants among them
-abbrev Sums : List Signed → Type 0
-Sums l =
-    (s v : Float) (e f : ℤ) → s ≡ v → e ≡ f →
-    (foldl add_constant s l ≡ foldl (add binary64) v (map constant_value (those is_one l))) × (exact_sum e l ≡ exact_sum f (those is_one l))
-
-module _ (l : List Signed) (rest : Sums l) where
-  constant-next : (i : Signed) → T (is_item (item_of i)) → T (is_constant (item_of i)) → (s v : Float) (e f : ℤ) → s ≡ v → e ≡ f →
-      (foldl add_constant (add_constant s i) l ≡ foldl (add binary64) (add binary64 v (constant_value i)) (map constant_value (those is_one l)))
-      × (exact_sum (e +ℤ signed_by exact_in i) l ≡ exact_sum (f +ℤ signed_by exact_in i) (those is_one l))
-  constant-next i h c s v e f p q =
-      rest _ _ _ _ (constant_is_rounded_once i h c s ∙ ap (λ u. add binary64 u (constant_value i)) p) (ap (λ g. g +ℤ signed_by exact_in i) q)
-
-  other_next : (s v : Float) (e f : ℤ) → s ≡ v → e ≡ f →
-      (foldl add_constant s l ≡ foldl (add binary64) v (map constant_value (those is_one l))) × (exact_sum (e +ℤ pos 0) l ≡ exact_sum f (those is_one l))
-  other_next s v e f p q = rest s v (e +ℤ pos 0) f p (+ℤ_idr e ∙ q)
-
-  next : (i : Signed) → T (is_item (item_of i)) → Sums (i ∷ l)
-  unfolding those
-  next (Signed.plus (Item.axis a)) h = other_next
-  next (Signed.plus (Item.times n a)) h = other_next
-  next (Signed.plus (Item.whole n)) h = constant-next (Signed.plus (Item.whole n)) h tt
-  next (Signed.plus (Item.fraction n d)) h = constant-next (Signed.plus (Item.fraction n d)) h tt
-  next (Signed.minus (Item.axis a)) h = other_next
-  next (Signed.minus (Item.times n a)) h = other_next
-  next (Signed.minus (Item.whole n)) h = constant-next (Signed.minus (Item.whole n)) h tt
-  next (Signed.minus (Item.fraction n d)) h = constant-next (Signed.minus (Item.fraction n d)) h tt
-
-sums : (l : List Signed) → T (all (λ i. is_item (item_of i)) l) → Sums l
-unfolding those
-sums [] h = λ s v e f p q. (p, q)
-sums (i ∷ l) h = next l (sums l (all_tail _ i l h)) i (all_head _ i l h)
-
-pub origin_is_the_sum : OriginIsTheSum
-unfolding constants
-origin_is_the_sum t h = (sums (items t) h zero_f zero_f (pos 0) (pos 0) refl refl).0
-
--- added to +0 a constant is itself, and its fraction over 2520 rounds to it
-abbrev kept : ℤ → ℤ → ℕ → Bool
-kept a e d = same (add binary64 zero_f (rounded a d)) (rounded e 2520)
-
-each-kept : T (every kept)
-unfolding all up_from add round of_bits to_bits
-each-kept = tt
-
-alone : (i : Signed) → T (is_item (item_of i)) → add binary64 zero_f (constant_value i) ≡ rounded (signed_by exact_in i) 2520
-alone i h = same_is _ _ (add-fits binary64 _ _) (rounded_fits (signed_by exact_in i) 2520) (at kept each-kept i h)
-
-one_at_most : (l : List Signed) → ((i : Signed) → Memᴰ i l → T (is_item (item_of i))) → length l ≤ 1 →
-    foldl (add binary64) zero_f (map constant_value l) ≡ rounded (exact_sum (pos 0) l) 2520
-unfolding of_bits round
-one_at_most [] h k = refl
-one_at_most (i ∷ []) h k = alone i (h i (Memᴰ.head refl)) ∙ ap (λ e. rounded e 2520) (sym (+ℤ_idl (signed_by exact_in i)))
-one_at_most (i ∷ j ∷ l) h k = absurd (not-suc-le-zero (le_of_suc-le-suc k))
-
-pub origin_is_rounded_once : OriginIsRoundedOnce
-unfolding constants
-origin_is_rounded_once t h k =
-    let p = sums (items t) h zero_f zero_f (pos 0) (pos 0) refl refl in
-    p.0 ∙ one_at_most (constants t) (λ i m. all_mem _ (items t) i h (from_those is_one (items t) i m).0) k ∙ ap (λ e. rounded e 2520) (sym p.1)
 
 -- ---- no other float is as near to a constant's fraction
 

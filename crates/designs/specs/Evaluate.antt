@@ -31,9 +31,11 @@ use Rattle.definitions.specs.Limits.{small, copies, most_bytes, too_many_listed}
 use Rattle.data_wyckoff_laws.specs.Reader.{parse}
 use Rattle.data_wyckoff_laws.specs.Reading.{read_unique, parse_reads, parse_none}
 use Rattle.base_cell.specs.Classes.{classes}
-use Rattle.base_cell.specs.Labels.{labels_by, labels_computed}
+use Rattle.base_cell.specs.Labels.{labels_by}
+use Rattle.base_cell.proofs.ClassLabels.{labels_computed}
 use Rattle.symmetrize_wyckoff_laws.specs.Unique.{sites_unique}
-use Rattle.job_laws.specs.Decode.{decode, decode_sound, not_a_job, job_unique}
+use Rattle.job_laws.specs.Decode.{decode}
+use Rattle.job_laws.proofs.Decode.{decode_sound, not_a_job, job_unique}
 use Rattle.designs.specs.Computed.{computed}
 use Rattle.laws.specs.Verdicts.{Tested, holds, fails, untested, either, TestedAll, Found as Verdict, clear, first, unknown, scan}
 

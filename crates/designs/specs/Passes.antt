@@ -1,13 +1,12 @@
 -- Request M-113 of document 02: the passes of its own figures. One table, and one proof over it.
-use Rattle.std.specs.Prelude.{ℕ, ◌≡◌, refl, List, [], ◌∷◌, map, get_or, drop, ℤ, pos, negsuc}
-use Rattle.std.proofs.Common.{ap, subst}
+use Rattle.std.specs.Prelude.{ℕ, ◌≡◌, refl, List, [], ◌∷◌, ℤ, pos, negsuc}
+use Rattle.std.proofs.Common.{subst}
 use Rattle.std.proofs.Math.Option.{Option, none, some, none-ne-some, some-injective}
 use Rattle.definitions.specs.declared.Stages.{Stages}
 use Rattle.definitions.specs.declared.Passes.{Passes}
 use Rattle.definitions.specs.declared.Passes.TheVariants.{Counted, Left, Outside}
-use Rattle.definitions.specs.Lists.{Each}
 use Rattle.definitions.specs.Matrix.{Matrix}
-use Rattle.definitions.specs.Snf.{Run, pivot, begun, passes_of}
+use Rattle.definitions.specs.Snf.{Run, pivot}
 use Rattle.definitions.specs.Calls.{PassesPromise}
 use Rattle.math_snf_laws.specs.Evaluate.{run}
 use Rattle.math_snf_laws.specs.Stages.{most}
@@ -19,7 +18,7 @@ abbrev said_by : {m : Matrix} → Option (Run m) → Option Passes
 said_by none = none
 said_by (some r) = some (judged r)
 
-said_right : {m : Matrix} (p : Passes) (o : Option (Run m)) → said_by o ≡ some p → PassesPromise m p
+pub said_right : {m : Matrix} (p : Passes) (o : Option (Run m)) → said_by o ≡ some p → PassesPromise m p
 said_right p none e = absurd (none-ne-some p e)
 said_right {m} p (some r) e = subst (PassesPromise m) (some-injective (judged r) p e) (judged_right r)
 
@@ -31,7 +30,7 @@ pub record Figure : Type 0 where
 abbrev pub Promised : Figure → Type 0
 Promised f = PassesPromise f.matrix f.passes
 
-abbrev said : Figure → Option Passes
+abbrev pub said : Figure → Option Passes
 said f = said_by (run 12 f.matrix)
 
 abbrev rows : ℤ → ℤ → ℤ → ℤ → ℤ → ℤ → ℤ → ℤ → ℤ → Matrix
@@ -71,22 +70,6 @@ figures =
     ∷ outside (rows (pos 32) (pos 0) (pos 0) (pos 0) (pos 1) (pos 0) (pos 0) (pos 0) (pos 1))
     ∷ outside (rows (pos 1) (pos 31) (pos 0) (pos 31) (pos 32) (pos 1) (pos 0) (pos 1) (pos 0))
     ∷ []
-
-computed-figures : map said figures ≡ map (λ f. some f.passes) figures
-unfolding figures computed begun
-computed-figures = refl
-
--- from what is computed of each to what is promised of each
-each_promised : (fs : List Figure) → map said fs ≡ map (λ f. some f.passes) fs → Each Promised fs
-unfolding Each
-each_promised [] e = tt
-each_promised (f ∷ fs) e = (
-  said_right f.passes (run 12 f.matrix) (ap (λ l. get_or l 0 none) e),
-  each_promised fs (ap (drop 1) e),
-)
-
-pub figures_right : Each Promised figures
-figures_right = each_promised figures computed-figures
 
 -- the bound is met: of all ones the first pivot is 1, and the first stage has two passes
 pub bound_met : most ones (pivot 0 ones) ≡ 2

@@ -21,7 +21,7 @@ use Rattle.definitions.specs.Job.{float}
 use Rattle.definitions.specs.Calls.{inverse_conditions, points_conditions}
 use Rattle.definitions.specs.SiteCalls.{text_conditions}
 use Rattle.data_wyckoff_laws.specs.Reading.{unreadable_none}
-use Rattle.base_cell.specs.Labels.{labels_computed}
+use Rattle.base_cell.proofs.ClassLabels.{labels_computed}
 use Rattle.laws.specs.Verdicts.{holds, fails, verdict_of, checked, refused_with_lem}
 use Rattle.designs.specs.Computed.{computed}
 use Rattle.designs.specs.Evaluate.{leaves}

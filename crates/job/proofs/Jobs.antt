@@ -8,7 +8,7 @@ use lib.Pow.{are_bytes}
 use Rattle.definitions.specs.declared.JobCounts.{JobCounts}
 use Rattle.definitions.specs.Limits.{most_bytes}
 use Rattle.definitions.specs.Job.{NoJob}
-use Rattle.job_laws.specs.Decode.{decode_sound, job_decodes}
+use Rattle.job_laws.proofs.Decode.{decode_sound, job_decodes}
 use Rattle.job.specs.Places.{parts_at, Layout, Opens, Closes, symprec_from}
 use Rattle.job.specs.Counted.{JobOf}
 use Rattle.job.proofs.Whole.{job_reads, job_opens, job_closes}

@@ -16,7 +16,7 @@ use Rattle.definitions.specs.Lent.{cells_of}
 use Rattle.definitions.specs.WholeCalls.{Given, given_of, HoldsGiven, nothing_given, too_short_for, read_conditions, ReadPromise}
 use Rattle.laws.specs.Tests.{so, not_so}
 use Rattle.laws.specs.Verdicts.{HoldsAt, Passed, found_at_lem, found_none, refuse, accept, verdict_of, accepted_with, refused_with_lem}
-use Rattle.job_laws.specs.Decode.{job_unique}
+use Rattle.job_laws.proofs.Decode.{job_unique}
 use Rattle.job.specs.Places.{items, run, parts_at, word_at, integer_at, floats_at, entries_at, text_at, lattice_at, cells_from, matrix_from, site_at, operation_at, candidate_at, sites_from, operations_from, images_from, targets_from, rotations_from, candidates_from, symprec_from}
 use Rattle.job.specs.Counted.{JobOf, Counted, counts_are, not_no_job}
 use Rattle.definitions.specs.WholeCalls.{count_conditions, CountPromise}

@@ -10,7 +10,8 @@ use Rattle.definitions.specs.declared.JobCounts.{JobCounts}
 use Rattle.definitions.specs.Lists.{any}
 use Rattle.definitions.specs.Job.{Parts, SitePart, OperationPart}
 use Rattle.job_laws.specs.Reader.{Reader, mapped, ◌then◌, mapped_forth, mapped_back, then_forth, then_back, behind, many, number, alone, closed}
-use Rattle.job_laws.specs.Decode.{Opening, Body, read_lattice, read_transformation, read_centring, read_opening, read_sites, read_operation, read_entries, read_candidate, read_floats, read_body, read_parts, to_parts, ending, ending_is, decode}
+use Rattle.job_laws.specs.Decode.{Opening, Body, read_lattice, read_transformation, read_centring, read_opening, read_sites, read_operation, read_entries, read_candidate, read_floats, read_body, read_parts, to_parts, ending, decode}
+use Rattle.job_laws.proofs.Decode.{ending_is}
 use Rattle.job.specs.Places.{parts_at, run, Run, Layout, Opens, Closes, entries_at, floats_at, sites_from, operations_from, images_from, targets_from, rotations_from, candidates_from, symprec_from}
 use Rattle.job.proofs.Fixed.{Fixed, fixed_number, fixed_floats, fixed_entries, fixed_then, fixed_site, fixed_operation, fixed_candidate, fixed_nothing}
 use Rattle.job.proofs.Runs.{command_forth, command_back, run_forth, run_back, Leads, leads_run, leads_away}

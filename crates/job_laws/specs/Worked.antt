@@ -1,8 +1,6 @@
 -- The worked job of document 01, byte by byte, and bytes that are no job.
-use Rattle.std.specs.Prelude.{ℕ, ◌≡◌, refl, List, [], ◌∷◌, ◌++◌, length, take, replicate, ℤ, pos, negsuc}
-use Rattle.std.proofs.Math.Option.{some}
-use Rattle.definitions.specs.Job.{Parts, IsJob}
-use Rattle.job_laws.specs.Decode.{decode, decode_sound, not_a_job}
+use Rattle.std.specs.Prelude.{ℕ, ◌≡◌, refl, List, [], ◌∷◌, ◌++◌, length, replicate, ℤ, pos, negsuc}
+use Rattle.definitions.specs.Job.{Parts}
 
 -- 0.0 and 1.0, eight bytes each
 abbrev zeros : List ℕ
@@ -55,22 +53,3 @@ worked =
 
 worked-length : length worked_bytes ≡ 304
 worked-length = refl
-
-pub worked_decodes : decode worked_bytes ≡ some worked
-unfolding decode
-worked_decodes = refl
-
-pub worked_job : IsJob worked_bytes worked
-worked_job = decode_sound worked_bytes worked worked_decodes tt
-
-pub empty_no_job : (p : Parts) → IsJob [] p → ⊥
-unfolding decode
-empty_no_job = not_a_job _ refl
-
-pub cut_no_job : (p : Parts) → IsJob (take 303 worked_bytes) p → ⊥
-unfolding decode
-cut_no_job = not_a_job _ refl
-
-pub longer_no_job : (p : Parts) → IsJob (worked_bytes ++ 0 ∷ []) p → ⊥
-unfolding decode
-longer_no_job = not_a_job _ refl

@@ -1,12 +1,11 @@
 -- Which number applies first: one at the most. What is left to a call that is past the numbers before one.
 use Rattle.std.specs.Prelude.{ℕ, ◌≡◌, Bool, ◌&&◌, List, [], ◌∷◌, ◌++◌, ◌⊎◌, T, eqb}
-use Rattle.std.proofs.Math.Path.{refl, ap}
 use Rattle.std.proofs.Common.{sym, subst, ◌∙◌, inl, eqb→eq}
 use Rattle.std.proofs.Math.Bool.{true, false}
 use Rattle.std.proofs.Math.Logic.{inr, ⊎_elim}
 use Rattle.std.proofs.Math.Dec.{eqb_refl}
 use Rattle.definitions.specs.Lists.{any}
-use Rattle.definitions.specs.Refusal.{Condition, Applies, NoneOf, upto, precedence, Past, Outcome, accepted, refused, Returns, Checked}
+use Rattle.definitions.specs.Refusal.{Condition, Applies, NoneOf, upto, precedence, Past, Returns, Checked}
 use Rattle.definitions.specs.declared.Verdict.{Verdict}
 use Rattle.definitions.specs.declared.Verdict.TheVariants.{Accepted, Refused}
 use Rattle.laws.specs.Tests.{and_left, and_right}
@@ -128,7 +127,7 @@ applies_numbered (c ∷ cs) k t a =
 -- ---- the first number that applies
 
 -- two numbers of a list, each with none before it that applies, are one
-first_unique :
+pub first_unique :
     (cs : List Condition) (ks : List ℕ) (k l : ℕ) → T (among ks k) → T (among ks l) → Applies cs k → NoneOf cs (upto k ks) →
     Applies cs l → NoneOf cs (upto l ks) → k ≡ l
 unfolding any upto NoneOf
@@ -149,29 +148,6 @@ first_unique cs (i ∷ ks) k l m n a p b q =
     by true e false f m n p q rest = absurd (q.0 (subst (Applies cs) (sym (e tt)) a))
     by false e true f m n p q rest = absurd (p.0 (subst (Applies cs) (sym (f tt)) b))
     by false e false f m n p q rest = rest m n p.1 q.1
-
-module _ (cs : List Condition) (t : T (numbered cs)) where
-  -- Past the numbers before k and l, and each applies: they are one. No number need be the last.
-  pub one_number : (k l : ℕ) → Applies cs k → Past k cs → Applies cs l → Past l cs → k ≡ l
-  one_number k l a p b q = first_unique cs precedence k l (applies_numbered cs k t a) (applies_numbered cs l t b) a p b q
-
-  -- a number that applies is not past all
-  pub not_all : (k : ℕ) → Applies cs k → NoneOf cs precedence → ⊥
-  not_all k a n = none_of cs precedence k (applies_numbered cs k t a) n a
-
-  -- no two verdicts are right
-  pub checked_unique : (v w : Verdict) → Checked cs v → Checked cs w → v ≡ w
-  unfolding Checked Returns
-  checked_unique Accepted Accepted a b = refl
-  checked_unique Accepted (Refused k) a b = absurd (not_all k b.0 a.0)
-  checked_unique (Refused k) Accepted a b = absurd (not_all k a.0 b.0)
-  checked_unique (Refused k) (Refused l) a b = ap Refused (one_number k l a.0 a.1 b.0 b.1)
-
-  -- past the numbers before k, which applies: the call is refused with k, whatever comes behind it
-  pub refused_first : {A : Type 0} (Is : A → Type 0) (k : ℕ) → Applies cs k → Past k cs → (o : Outcome A) → Returns cs Is o → o ≡ refused k
-  unfolding Returns
-  refused_first Is k a p (accepted x) r = absurd (not_all k a r.0)
-  refused_first Is k a p (refused l) r = ap refused (sym (one_number k l a p r.0 r.1))
 
 -- ---- a call past all of its conditions, or past those before one
 

@@ -1,10 +1,9 @@
 -- The cases of rounding to a whole number, in the order of IEEE 754's text: special values, nearest, then the tie. Each
 -- float is in just one of them.
-use Rattle.std.specs.Prelude.{ℕ, zero, suc, ◌+◌, ◌*◌, ◌-◌, ◌/◌, ◌%◌, ◌^◌, ◌≤◌, ◌<◌, ◌≡◌, refl, Bool, true, false, ◌⊎◌, T, Float}
-use Rattle.std.proofs.Common.{sym, ap, ◌∙◌, subst, inl, inr, arith, le_antisymm, lt_of_not-le, mod-lt, mul-le-mul_right, mul-lt-mul_of_pos_right, lt_of_mul-lt-mul_right, lit<, pow_pos}
+use Rattle.std.specs.Prelude.{ℕ, suc, ◌+◌, ◌*◌, ◌-◌, ◌/◌, ◌%◌, ◌^◌, ◌≤◌, ◌<◌, ◌≡◌, false, ◌⊎◌, T, Float}
+use Rattle.std.proofs.Common.{sym, ap, ◌∙◌, subst, inl, inr, arith, le_antisymm, lt_of_not-le, mod-lt, mul-le-mul_right, mul-lt-mul_of_pos_right, lt_of_mul-lt-mul_right, pow_pos}
 use Rattle.std.proofs.Math.Nat.{mod-add-div'}
 use Rattle.std.proofs.Math.Decide.{dec_le}
-use Rattle.std.specs.Float.{nan, inf, fin}
 use Rattle.definitions.specs.Real.{units_of, is_finite, round_away}
 use Rattle.math_round.specs.declared.cases.Step.{Step}
 use Rattle.math_round.specs.declared.cases.Step.TheVariants.{Settled, Open}
@@ -51,27 +50,24 @@ pub record JustOne (A B C : Type 0) : Type 0 where
   pub not_first_third : A → C → ⊥
   pub not_second_third : B → C → ⊥
 
-special_not_nearest : (x : Float) → Special x → Nearest x → ⊥
+pub special_not_nearest : (x : Float) → Special x → Nearest x → ⊥
 special_not_nearest x (inl e) h = subst T e h.finite
 special_not_nearest x (inr e) h = omega (arith, e, h.not_zero)
 
-above_zero : (U X n : ℕ) → 0 < U → HalfWay U X n → 0 < X
+pub above_zero : (U X n : ℕ) → 0 < U → HalfWay U X n → 0 < X
 above_zero U X n p h = omega (arith, h)
 
 -- zero is not half way
-special_not_tie : (x : Float) → Special x → Tie x → ⊥
+pub special_not_tie : (x : Float) → Special x → Tie x → ⊥
 special_not_tie x (inl e) h = subst T e h.finite
 special_not_tie x (inr e) h = omega (arith, e, above_zero (2 ^ 1074) (units_of x) h.n (pow_pos 1074) h.half_way)
 
 -- n would be more than k and less than k + 1
-not_both : (U X n k : ℕ) → Within U X n → HalfWay U X k → ⊥
+pub not_both : (U X n k : ℕ) → Within U X n → HalfWay U X k → ⊥
 not_both U X n k h e =
     let less : n < suc k = lt_of_mul-lt-mul_right U {m = n} {n = suc k} (omega (arith, h.above, e)) in
     let more : k < n = lt_of_mul-lt-mul_right U {m = k} {n = n} (omega (arith, h.below, e)) in
     omega arith
-
-nearest_not_tie : (x : Float) → Nearest x → Tie x → ⊥
-nearest_not_tie x h t = not_both (2 ^ 1074) (units_of x) h.n t.n h.near t.half_way
 
 -- D / P of A units each, where U are P of them: by the rest of that division X is nearest to a whole number or half way
 -- between two.
@@ -101,90 +97,11 @@ compared a b = by (dec_le b a) (dec_le a b)
     by (yes h) (no n) = inr (inl (lt_of_not-le n))
     by (yes h) (yes k) = inr (inr (le_antisymm k h))
 
-some_case : (x : Float) → T (is_finite x) → 0 < units_of x → Nearest x ⊎ Tie x
-some_case x f o = by (compared (2 * (X % U)) U)
-  where
-    X : ℕ
-    X = units_of x
-
-    U : ℕ
-    U = 2 ^ 1074
-
-    one : (n : ℕ) → n ≡ n * 1
-    one n = omega arith
-
-    by : (2 * (X % U) < U) ⊎ ((U < 2 * (X % U)) ⊎ (2 * (X % U) ≡ U)) → Nearest x ⊎ Tie x
-    by (inl h) =
-        let w = rest_below X U 1 U X (pow_pos 1074) (lit< tt) (one X) (one U) h in
-        inl (record { finite = f; not_zero = o; n = X / U; near = w })
-    by (inr (inl h)) =
-        let w = rest_above X U 1 U X (pow_pos 1074) (lit< tt) (one X) (one U) h in
-        inl (record { finite = f; not_zero = o; n = suc (X / U); near = w })
-    by (inr (inr h)) =
-        let w = rest-half X U 1 U X (pow_pos 1074) (lit< tt) (one X) (one U) h in
-        inr (record { finite = f; n = X / U; half_way = w })
-
-some : (x : Float) → Special x ⊎ (Nearest x ⊎ Tie x)
-some nan = inl (inl refl)
-some (inf s) = inl (inl refl)
-some (fin s m e) = by (dec_le 1 (units_of (fin s m e)))
-  where
-    by : Dec (1 ≤ units_of (fin s m e)) → Special (fin s m e) ⊎ (Nearest (fin s m e) ⊎ Tie (fin s m e))
-    by (yes h) = inr (some_case (fin s m e) tt h)
-    by (no n) = inl (inr (none (units_of (fin s m e)) (lt_of_not-le n)))
-      where
-        none : (X : ℕ) → X < 1 → X ≡ 0
-        none X h = omega arith
-
--- each float, and so each f64, is in just one of the cases
-pub just_one : (x : Float) → JustOne (Special x) (Nearest x) (Tie x)
-just_one x =
-    record {
-      some = some x;
-      not_first_second = special_not_nearest x;
-      not_first_third = special_not_tie x;
-      not_second_third = nearest_not_tie x;
-    }
-
 -- ---- settled by just one
 
 abbrev pub IsSettled : Step → Type 0
 IsSettled (Settled r) = Unit {0}
 IsSettled Open = ⊥
-
-by_its_case : (A : Type 0) (x : Float) (t : Step) → StepOf A x t → IsSettled t → A
-by_its_case A x (Settled r) h s = h.0
-by_its_case A x Open h s = absurd s
-
-settles_its_case : (A : Type 0) (x : Float) (t : Step) → StepOf A x t → A → IsSettled t
-settles_its_case A x (Settled r) h a = tt
-settles_its_case A x Open h a = absurd (h a)
-
--- "each f64 that rounding takes is settled by just one of the three": of the steps' own contracts
-pub settled_by_just_one :
-    (x : Float) (a b c : Step) → StepOf (Special x) x a → StepOf (Nearest x) x b → StepOf (Tie x) x c →
-    JustOne (IsSettled a) (IsSettled b) (IsSettled c)
-settled_by_just_one x a b c p q r =
-    record {
-      some = by (just_one x).some;
-      not_first_second = λ s t. (just_one x).not_first_second (of_a s) (of_b t);
-      not_first_third = λ s t. (just_one x).not_first_third (of_a s) (of_c t);
-      not_second_third = λ s t. (just_one x).not_second_third (of_b s) (of_c t);
-    }
-  where
-    of_a : IsSettled a → Special x
-    of_a = by_its_case (Special x) x a p
-
-    of_b : IsSettled b → Nearest x
-    of_b = by_its_case (Nearest x) x b q
-
-    of_c : IsSettled c → Tie x
-    of_c = by_its_case (Tie x) x c r
-
-    by : Special x ⊎ (Nearest x ⊎ Tie x) → IsSettled a ⊎ (IsSettled b ⊎ IsSettled c)
-    by (inl h) = inl (settles_its_case (Special x) x a p h)
-    by (inr (inl h)) = inr (inl (settles_its_case (Nearest x) x b q h))
-    by (inr (inr h)) = inr (inr (settles_its_case (Tie x) x c r h))
 
 -- ---- the cases by distances
 
@@ -214,15 +131,6 @@ as_near x h = at (2 ^ 1074) (units_of x) h.n h.half_way
     at U X n e = omega (arith, e)
 
 -- ---- for the code
-
--- no zero, and finite
-pub ordinary : (x : Float) → (Special x → ⊥) → T (is_finite x) × (0 < units_of x)
-ordinary x h = by (just_one x).some
-  where
-    by : Special x ⊎ (Nearest x ⊎ Tie x) → T (is_finite x) × (0 < units_of x)
-    by (inl s) = absurd (h s)
-    by (inr (inl c)) = (c.finite, c.not_zero)
-    by (inr (inr c)) = (c.finite, above_zero (2 ^ 1074) (units_of x) c.n (pow_pos 1074) c.half_way)
 
 -- a whole number is its own nearest
 pub whole_within : (U X n : ℕ) → 0 < U → X ≡ n * U → Within U X n

@@ -37,11 +37,11 @@ half = of_bits binary64 0x3FE0000000000000
 abbrev pub minus_half : Float
 minus_half = neg half
 
-least_is : least ≡ fin false 1 (pos 52)
+pub least_is : least ≡ fin false 1 (pos 52)
 unfolding of_bits
 least_is = refl
 
-greatest_is : greatest ≡ fin false 1 (pos 53)
+pub greatest_is : greatest ≡ fin false 1 (pos 53)
 unfolding of_bits
 greatest_is = refl
 
@@ -308,7 +308,7 @@ module _ (s : Bool) (m : ℕ) (e : ℤ) (f : T (fits binary64 (fin s (suc m) e))
       ∙ ap (λ (x : ℕ). sum binary64 s a (not s) x c) (sym zero-c)
       ∙ sym (off_rounded n few cut)
 
-  off_number :
+  pub off_number :
       T (le least (pushed d)) → T (le (pushed d) greatest) → Small (off_whole d) →
       off_whole d ≡ sub binary64 d (round_away d)
   off_number l g h =
@@ -366,7 +366,7 @@ module _ (s : Bool) (e : ℤ) where
       none : (a c : ℕ) → a ≡ 0 → 0 < c → (2 * (0 * c - a) < c) × (2 * (a - 0 * c) < c)
       none a c q p = (omega arith, omega arith)
 
-  off_zero : off_whole (fin s 0 e) ≡ sub binary64 (fin s 0 e) (round_away (fin s 0 e))
+  pub off_zero : off_whole (fin s 0 e) ≡ sub binary64 (fin s 0 e) (round_away (fin s 0 e))
   unfolding sub
   off_zero =
       ap (λ (p : Float). sub binary64 p (sub binary64 (add binary64 p middle) middle)) with_nothing
@@ -382,17 +382,17 @@ module _ (s : Bool) (e : ℤ) where
 
 -- ---- the theorem
 
-pushed_far : (s : Bool) → pushed (inf s) ≡ inf s
+pub pushed_far : (s : Bool) → pushed (inf s) ≡ inf s
 unfolding add
 pushed_far s = λ i. add binary64 (add binary64 (inf s) (zero_is i)) (middle_is i)
 
 -- what four tests that pass say
-record Passed (d : Float) : Type 0 where
-  above : T (le least (pushed d))
-  below : T (le (pushed d) greatest)
-  small : Small (off_whole d)
+pub record Passed (d : Float) : Type 0 where
+  pub above : T (le least (pushed d))
+  pub below : T (le (pushed d) greatest)
+  pub small : Small (off_whole d)
 
-passed : (d : Float) → settles d ≡ true → Passed d
+pub passed : (d : Float) → settles d ≡ true → Passed d
 passed d h =
     let all : T (settles d) = subst T (sym h) tt in
     let a = le least (pushed d) in
@@ -402,19 +402,3 @@ passed d h =
     let three = and_l (a && b && u) v all in
     let two = and_l (a && b) u three in
     record { above = and_l a b two; below = and_r a b two; small = (and_r (a && b) u three, and_r (a && b && u) v all) }
-
-pub off_whole_is : (d : Float) → T (fits binary64 d) → settles d ≡ true → off_whole d ≡ sub binary64 d (round_away d)
-unfolding le add
-off_whole_is nan f h = absurd (subst (λ (z : Float). T (le z (pushed nan))) least_is (passed nan h).above)
-off_whole_is (inf true) f h =
-    absurd
-    (subst (λ (z : Float). T (le (fin false 1 (pos 52)) z)) (pushed_far true)
-    (subst (λ (z : Float). T (le z (pushed (inf true)))) least_is (passed (inf true) h).above))
-off_whole_is (inf false) f h =
-    absurd
-    (subst (λ (z : Float). T (le z (fin false 1 (pos 53)))) (pushed_far false)
-    (subst (λ (z : Float). T (le (pushed (inf false)) z)) greatest_is (passed (inf false) h).below))
-off_whole_is (fin s zero e) f h = off_zero s e
-off_whole_is (fin s (suc m) e) f h =
-    let p = passed (fin s (suc m) e) h in
-    off_number s m e f p.above p.below p.small

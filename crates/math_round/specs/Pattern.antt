@@ -1,20 +1,16 @@
 -- A float by the fields of its bit pattern: the sign, the exponent's field, the digits. What they say of its case.
-use Rattle.std.specs.Prelude.{ℕ, zero, suc, ◌+◌, ◌*◌, ◌-◌, ◌/◌, ◌%◌, ◌^◌, ◌≤◌, ◌<◌, ◌≡◌, refl, Bool, true, false, not, cond, ◌⊎◌, T, eqb, leb, Float}
+use Rattle.std.specs.Prelude.{ℕ, zero, suc, ◌+◌, ◌*◌, ◌-◌, ◌/◌, ◌%◌, ◌^◌, ◌≤◌, ◌<◌, ◌≡◌, refl, Bool, true, false, cond, ◌⊎◌, T, eqb, leb, Float}
 use Rattle.std.proofs.Math.Path.{sym, ap}
-use Rattle.std.proofs.Common.{◌∙◌, subst, inl, inr, arith, mul-div_cancel, mul-pos, mul_assoc, lt_of_lt_of_le, lt_of_le_of_lt, lt_of_not-le, div-le_self, eq-eqb, ne_eqb, le-leb, pow-add, pow_pos, pow_mono, shl_lt}
-use Rattle.std.proofs.Math.Nat.{mod-le}
+use Rattle.std.proofs.Common.{◌∙◌, subst, inl, inr, arith, mul-div_cancel, mul-pos, mul_assoc, lt_of_not-le, eq-eqb, ne_eqb, le-leb, pow-add, pow_pos}
 use Rattle.std.proofs.Math.Decide.{dec_le}
 use Rattle.std.proofs.lemmas.Bool.{lt-leb}
 use Rattle.std.specs.Float.{nan, inf, fin}
-use Rattle.std.specs.Float.Ieee.{binary64, down, odd, of_fields, round, fits, is_nan, of_bits, to_bits}
-use Rattle.std.specs.Float.Ieee.Bits.{of_bits-to_bits, to_bits-lt}
+use Rattle.std.specs.Float.Ieee.{binary64, down, odd, of_fields, round, of_bits, to_bits}
 use Rattle.std.specs.Float.Ieee.Fits.{down_pos}
 use Rattle.std.specs.Float.Ieee.Exact.{HasValue, odd_sign}
 use Rattle.definitions.specs.Real.{units_of, is_finite, negative, round_away}
 use Rattle.math_round.specs.Cases as Cases
-use Rattle.math_round.specs.Cases.{Within, HalfWay, Nearest, Tie, ordinary, compared}
-use Rattle.math_round.specs.Cases.{rest_below, rest_above, rest-half, whole_within}
-use Rattle.math_round.specs.Rounded.{whole_is_its_own, nearest_is_rounded, tie_is_rounded}
+use Rattle.math_round.specs.Cases.{Nearest, Tie, compared}
 use Rattle.math_round.specs.declared.pattern.Parts.{Parts}
 use Rattle.math_round.specs.declared.pattern.Magnitude.{Magnitude}
 use Rattle.math_round.specs.declared.pattern.Magnitude.TheVariants.{Special, Whole, Split}
@@ -66,7 +62,7 @@ measured (inf t) s a h = absurd h
 measured (fin t m e) s a h =
     record { finite = tt; sign = h.0; units = ap (λ (y : ℕ). y / down e) h.1 ∙ mul-div_cancel a (down_pos e) }
 
-finite_pattern :
+pub finite_pattern :
     (b : ℕ) → field_of b < 2047 →
     Measured (of_bits binary64 b) (leb (2 ^ 63) b) (units_at (field_of b) (b % 2 ^ 52))
 unfolding of_bits
@@ -74,7 +70,7 @@ finite_pattern b h = measured _ (leb (2 ^ 63) b) _ (fields_value (leb (2 ^ 63) b
 
 -- ---- special values
 
-zero_pattern : (b : ℕ) → b % 2 ^ 63 ≡ 0 → Cases.Special (of_bits binary64 b)
+pub zero_pattern : (b : ℕ) → b % 2 ^ 63 ≡ 0 → Cases.Special (of_bits binary64 b)
 unfolding units_at
 zero_pattern b h =
     inr ((finite_pattern b (omega arith)).units ∙ at (field_of b) (b % 2 ^ 52) (omega arith) (omega arith))
@@ -94,11 +90,11 @@ infinite_fields s (suc x) t e =
     none true = refl
     none false = refl
 
-infinite_pattern : (b : ℕ) → 0x7FF0000000000000 ≤ b % 2 ^ 63 → Cases.Special (of_bits binary64 b)
+pub infinite_pattern : (b : ℕ) → 0x7FF0000000000000 ≤ b % 2 ^ 63 → Cases.Special (of_bits binary64 b)
 unfolding of_bits
 infinite_pattern b h = inl (infinite_fields (leb (2 ^ 63) b) (field_of b) (b % 2 ^ 52) (omega arith))
 
-other_pattern : (b : ℕ) → 0 < b % 2 ^ 63 → b % 2 ^ 63 < 0x7FF0000000000000 → 0 < units_of (of_bits binary64 b)
+pub other_pattern : (b : ℕ) → 0 < b % 2 ^ 63 → b % 2 ^ 63 < 0x7FF0000000000000 → 0 < units_of (of_bits binary64 b)
 unfolding units_at
 other_pattern b o h =
     subst (λ (y : ℕ). 0 < y) (sym (finite_pattern b (omega arith)).units) (at (field_of b) (b % 2 ^ 52) some)
@@ -112,7 +108,7 @@ other_pattern b o h =
 
 -- ---- from the field 1075 on
 
-whole_pattern :
+pub whole_pattern :
     (b : ℕ) → 1075 ≤ field_of b → field_of b < 2047 →
     units_of (of_bits binary64 b) ≡ digits_of b * 2 ^ (field_of b - 1075) * 2 ^ 1074
 unfolding units_at
@@ -128,81 +124,7 @@ whole_pattern b h l = (finite_pattern b l).units ∙ at (field_of b) (b % 2 ^ 52
 
 -- ---- below it
 
--- what the rest of a magnitude's parts says of X units
-record Halved (X : ℕ) (p : Parts) : Type 0 where
-  pub low : 2 * p.rest < p.one → Within (2 ^ 1074) X p.whole
-  pub high : p.one < 2 * p.rest → Within (2 ^ 1074) X (suc p.whole)
-  pub half : 2 * p.rest ≡ p.one → HalfWay (2 ^ 1074) X p.whole
-
--- with places that matter
-halved_far : (b x : ℕ) → field_of b ≡ suc x → 1020 ≤ x → x < 1074 → Halved (digits_of b * 2 ^ x) (parts_of b)
-halved_far b x e h l =
-    record {
-      low = rest_below (digits_of b) (one_of b) (2 ^ x) (2 ^ 1074) (digits_of b * 2 ^ x) (pow_pos p) (pow_pos x) refl one;
-      high = rest_above (digits_of b) (one_of b) (2 ^ x) (2 ^ 1074) (digits_of b * 2 ^ x) (pow_pos p) (pow_pos x) refl one;
-      half = rest-half (digits_of b) (one_of b) (2 ^ x) (2 ^ 1074) (digits_of b * 2 ^ x) (pow_pos p) (pow_pos x) refl one;
-    }
-  where
-    p : ℕ
-    p = 54 - (field_of b - 1021)
-
-    sum : p + x ≡ 1074
-    sum = omega arith
-
-    one : 2 ^ 1074 ≡ one_of b * 2 ^ x
-    one = ap (λ (y : ℕ). 2 ^ y) (sym sum) ∙ pow-add 2 p x
-
--- less than a half, whatever the digits are
-halved_near : (b X : ℕ) → field_of b < 1021 → 2 * X < 2 ^ 1074 → Halved X (parts_of b)
-halved_near b X h l =
-    let D = digits_of b in
-    subst (λ (p : ℕ). Halved X (record { sign = sign_of b; whole = D / 2 ^ p; rest = D % 2 ^ p; one = 2 ^ p }))
-    (sym places)
-    (record {
-      low = λ k. subst (Within (2 ^ 1074) X) (sym none) (beside (2 ^ 1074) l);
-      high = λ k. absurd (not_high k);
-      half = λ k. absurd (not_half k);
-    })
-  where
-    places : 54 - (field_of b - 1021) ≡ 54
-    places = omega arith
-
-    none : digits_of b / 2 ^ 54 ≡ 0
-    none = omega arith
-
-    beside : (U : ℕ) → 2 * X < U → Within U X 0
-    beside U l = record { above = omega arith; below = omega arith }
-
-    not_high : 2 ^ 54 < 2 * (digits_of b % 2 ^ 54) → ⊥
-    not_high k = omega arith
-
-    not_half : 2 * (digits_of b % 2 ^ 54) ≡ 2 ^ 54 → ⊥
-    not_half k = omega arith
-
-halved_pattern : (b : ℕ) → field_of b < 1075 → Halved (units_of (of_bits binary64 b)) (parts_of b)
-unfolding units_at
-halved_pattern b h =
-    subst (λ (X : ℕ). Halved X (parts_of b)) (sym (finite_pattern b (omega arith)).units) (at (field_of b) refl h)
-  where
-    few : (d x : ℕ) → d < 2 ^ 53 → x < 1020 → 2 * (d * 2 ^ x) < 2 ^ 1074
-    few d x h l =
-        let le : 53 + x ≤ 1073 = omega arith in
-        twice (d * 2 ^ x) (2 ^ 1073) (lt_of_lt_of_le (shl_lt 53 x h) (pow_mono le))
-      where
-        twice : (a c : ℕ) → a < c → 2 * a < 2 * c
-        twice a c h = omega arith
-
-    at : (f : ℕ) → field_of b ≡ f → f < 1075 → Halved (units_at f (b % 2 ^ 52)) (parts_of b)
-    at zero e h = halved_near b (b % 2 ^ 52 * 2 ^ 0) (omega arith) (few (b % 2 ^ 52) 0 (omega arith) (omega arith))
-    at (suc x) e h = by (dec_le 1020 x)
-      where
-        by : Dec (1020 ≤ x) → Halved (digits_of b * 2 ^ x) (parts_of b)
-        by (yes l) = halved_far b x e l (omega arith)
-        by (no n) =
-            let l = lt_of_not-le n in
-            halved_near b (digits_of b * 2 ^ x) (omega arith) (few (digits_of b) x (omega arith) l)
-
-sign_pattern : (b : ℕ) → b < 2 ^ 64 → eqb (sign_of b) 1 ≡ leb (2 ^ 63) b
+pub sign_pattern : (b : ℕ) → b < 2 ^ 64 → eqb (sign_of b) 1 ≡ leb (2 ^ 63) b
 sign_pattern b h = by (dec_le (2 ^ 63) b)
   where
     by : Dec (2 ^ 63 ≤ b) → eqb (b / 2 ^ 63) 1 ≡ leb (2 ^ 63) b
@@ -218,26 +140,6 @@ bits_of x = to_bits binary64 x
 abbrev pub signed : ℕ → ℕ → Float
 signed g n = round binary64 (eqb g 1) n 1
 
-module _ (x : Float) (f : T (fits binary64 x)) where
-  own : of_bits binary64 (bits_of x) ≡ x
-  own = of_bits-to_bits binary64 x f
-
-  pub zero_is_special : bits_of x % 2 ^ 63 ≡ 0 → Cases.Special x
-  zero_is_special h = subst Cases.Special own (zero_pattern (bits_of x) h)
-
-  pub infinite_is_special : 0x7FF0000000000000 ≤ bits_of x % 2 ^ 63 → Cases.Special x
-  infinite_is_special h = subst Cases.Special own (infinite_pattern (bits_of x) h)
-
-  pub other_is_not : 0 < bits_of x % 2 ^ 63 → bits_of x % 2 ^ 63 < 0x7FF0000000000000 → Cases.Special x → ⊥
-  other_is_not o h s = no (subst Cases.Special (sym own) s)
-    where
-      no_units : (X : ℕ) → 0 < X → X ≡ 0 → ⊥
-      no_units X o e = omega arith
-
-      no : Cases.Special (of_bits binary64 (bits_of x)) → ⊥
-      no (inl e) = subst T e (finite_pattern (bits_of x) (omega arith)).finite
-      no (inr e) = no_units (units_of (of_bits binary64 (bits_of x))) (other_pattern (bits_of x) o h) e
-
 -- what the parts of a magnitude say of x, and what it is rounded to
 pub record Parted (x : Float) (p : Parts) : Type 0 where
   pub low : 2 * p.rest < p.one → Nearest x × (signed p.sign p.whole ≡ round_away x)
@@ -252,62 +154,6 @@ abbrev pub Measures : Float → Magnitude → Type 0
 Measures x Special = Cases.Special x
 Measures x Whole = Nearest x × (x ≡ round_away x)
 Measures x (Split p) = Parted x p
-
-module _ (x : Float) (f : T (fits binary64 x)) (s : Cases.Special x → ⊥) where
-  below_infinity : field_of (bits_of x) < 2047
-  below_infinity = by (dec_le 0x7FF0000000000000 (bits_of x % 2 ^ 63))
-    where
-      by : Dec (0x7FF0000000000000 ≤ bits_of x % 2 ^ 63) → field_of (bits_of x) < 2047
-      by (yes h) = absurd (s (infinite_is_special x f h))
-      by (no n) = omega (arith, lt_of_not-le n)
-
-  sign_is : eqb (sign_of (bits_of x)) 1 ≡ negative x
-  sign_is =
-      sign_pattern (bits_of x) (to_bits-lt binary64 x f)
-      ∙ sym (finite_pattern (bits_of x) below_infinity).sign
-      ∙ ap negative (own x f)
-
-  near : (n : ℕ) → Within (2 ^ 1074) (units_of x) n → Nearest x
-  near n h = record { finite = (ordinary x s).0; not_zero = (ordinary x s).1; n = n; near = h }
-
-  nearest_signed : (n : ℕ) → Within (2 ^ 1074) (units_of x) n → Nearest x × (signed (sign_of (bits_of x)) n ≡ round_away x)
-  unfolding near
-  nearest_signed n h =
-      (near n h, ap (λ (g : Bool). round binary64 g n 1) sign_is ∙ sym (nearest_is_rounded x f (near n h)))
-
-  tie_signed :
-      (n : ℕ) → HalfWay (2 ^ 1074) (units_of x) n → Tie x × (signed (sign_of (bits_of x)) (suc n) ≡ round_away x)
-  tie_signed n h =
-      let t : Tie x = record { finite = (ordinary x s).0; n = n; half_way = h } in
-      (t, ap (λ (g : Bool). round binary64 g (suc n) 1) sign_is ∙ sym (tie_is_rounded x f t))
-
-  pub whole_is_nearest : 1075 ≤ field_of (bits_of x) → Nearest x × (x ≡ round_away x)
-  whole_is_nearest h =
-      let n = digits_of (bits_of x) * 2 ^ (field_of (bits_of x) - 1075) in
-      let e : units_of x ≡ n * 2 ^ 1074 =
-      ap units_of (sym (own x f)) ∙ whole_pattern (bits_of x) h below_infinity in
-      let w = whole_within (2 ^ 1074) (units_of x) n (pow_pos 1074) e in
-      (near n w, sym (whole_is_its_own x n f (ordinary x s).0 e))
-
-  parted_own : field_of (bits_of x) < 1075 → Parted x (parts_of (bits_of x))
-  parted_own h =
-      let b = bits_of x in
-      let k : Halved (units_of x) (parts_of b) =
-      subst (λ (y : Float). Halved (units_of y) (parts_of b)) (own x f) (halved_pattern b h) in
-      record {
-        low = λ l. nearest_signed (parts_of b).whole (k.low l);
-        high = λ l. nearest_signed (suc (parts_of b).whole) (k.high l);
-        half = λ l. tie_signed (parts_of b).whole (k.half l);
-        few_sign = omega (arith, to_bits-lt binary64 x f);
-        few_whole = lt_of_le_of_lt (div-le_self (digits_of b) (one_of b)) few;
-        few_rest = lt_of_le_of_lt (mod-le (digits_of b) (one_of b)) few;
-      }
-    where
-      few : digits_of (bits_of x) < 2 ^ 53
-      few = omega arith
-
-  pub parted : field_of (bits_of x) < 1075 → (p : Parts) → p ≡ parts_of (bits_of x) → Parted x p
-  parted h p e = subst (Parted x) (sym e) (parted_own h)
 
 -- a reading that is known to be of parts
 pub by_parts : (x : Float) (t : Magnitude) (p : Parts) → Measures x t → t ≡ Split p → Parted x p

@@ -1,6 +1,6 @@
 -- The passes of a stage that are begun up to the first that assigns an entry outside -511..511.
 use Rattle.std.specs.Prelude.{ℕ, suc, ◌+◌, ◌≤◌, ◌≡◌, refl, Bool, true, false, cond, ◌&&◌, List, [], ◌∷◌, ◌++◌, length, ℤ}
-use Rattle.std.proofs.Common.{sym, ap, ◌∙◌, append-nil, arith, le_trans}
+use Rattle.std.proofs.Common.{sym, ap, ◌∙◌, append-nil, arith}
 use Rattle.definitions.specs.declared.Stages.{Stages}
 use Rattle.definitions.specs.Lists.{all, each}
 use Rattle.definitions.specs.Limits.{small}
@@ -9,7 +9,6 @@ use Rattle.definitions.specs.Snf.{pivot, Run, all_small, begun, begun_of, passes
 use Rattle.laws.specs.Tests.{both_true}
 use Rattle.laws.specs.Lists.{all_append, each_append}
 use Rattle.math_snf_laws.specs.Stages.{most}
-use Rattle.math_snf_laws.specs.Runs.{passes₀, passes₁, passes₂}
 
 -- ---- in range, pass by pass
 
@@ -79,15 +78,3 @@ module _ {m : Matrix} (r : Run m) where
       let h = both_true (all_small (a ++ b)) (all_small c) (sym (small_append (a ++ b) c) ∙ e) in
       let k = both_true (all_small a) (all_small b) (sym (small_append a b) ∙ h.0) in
       rw (h.0, k.0, begun_all a k.0, begun_all b k.1, begun_all c h.1)
-
-  pub begun_at_most : AtMost r (begun_of r)
-  begun_at_most =
-      record {
-        of_first = le_trans (begun_some r.assigned₀) (passes₀ r);
-        of_second = reached (all_small r.assigned₀) (le_trans (begun_some r.assigned₁) (passes₁ r));
-        of_third = reached (all_small (r.assigned₀ ++ r.assigned₁)) (le_trans (begun_some r.assigned₂) (passes₂ r));
-      }
-    where
-      reached : (b : Bool) {n k : ℕ} → n ≤ k → cond b n 0 ≤ k
-      reached true h = h
-      reached false h = omega arith

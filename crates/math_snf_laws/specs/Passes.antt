@@ -1,12 +1,11 @@
 -- Request M-113 of document 02, of the call `passes` by its promise: which number, with which passes, and their bound.
-use Rattle.std.specs.Prelude.{ℕ, ◌≡◌, Bool, true, false, cond, [], ◌∷◌, ◌↔◌}
+use Rattle.std.specs.Prelude.{ℕ, ◌≡◌, Bool, true, false, cond, ◌↔◌}
 use Rattle.std.proofs.Math.Path.{refl}
-use Rattle.std.proofs.Common.{sym, ap, ◌∙◌, subst, arith}
+use Rattle.std.proofs.Common.{sym, ap, ◌∙◌, arith}
 use Rattle.std.proofs.Math.Bool.{not}
-use Rattle.std.proofs.Math.Option.{Option, none, some, some-injective}
+use Rattle.std.proofs.Math.Option.{none, some, some-injective}
 use Rattle.definitions.specs.declared.Verdict.{Verdict}
 use Rattle.definitions.specs.declared.Verdict.TheVariants.{Accepted, Refused}
-use Rattle.definitions.specs.declared.Stages.{Stages}
 use Rattle.definitions.specs.declared.Passes.{Passes}
 use Rattle.definitions.specs.declared.Passes.TheVariants.{Counted, Left, Outside}
 use Rattle.definitions.specs.Lists.{all}
@@ -15,10 +14,10 @@ use Rattle.definitions.specs.Refusal.{Checked}
 use Rattle.definitions.specs.Matrix.{Matrix}
 use Rattle.definitions.specs.Snf.{State, Run, all_assigned, Leaves, begun_of, passes_of}
 use Rattle.definitions.specs.Calls.{snf_conditions, SnfPromise, passes_told, PassesPromise}
-use Rattle.laws.specs.Order.{numbered, checked_unique}
+use Rattle.laws.specs.Order.{numbered}
+use Rattle.laws.proofs.Order.{checked_unique}
 use Rattle.laws.specs.Verdicts.{holds, fails, untested, is_true, is_false, verdict_of, checked, number, same_number}
 use Rattle.math_snf_laws.specs.Unique.{same-run, stays}
-use Rattle.math_snf_laws.specs.Begun.{AtMost, all-begun, begun_at_most}
 use Rattle.math_snf_laws.specs.Runs.{every}
 
 -- ---- the verdict on a matrix, by its run
@@ -121,10 +120,10 @@ module _ (m : Matrix) (p : Passes) (h : PassesPromise m p) where
   is_outside e = is_judged (every m) p h ∙ rw e refl
 
   module _ (r : Run m) (e : in_range m ≡ true) where
-    is_left : all small (all_assigned r) ≡ false → p ≡ Left (begun_of r)
+    pub is_left : all small (all_assigned r) ≡ false → p ≡ Left (begun_of r)
     is_left f = is_judged r p h ∙ rw (e, f) refl
 
-    is_counted : all small (all_assigned r) ≡ true → p ≡ Counted (passes_of r)
+    pub is_counted : all small (all_assigned r) ≡ true → p ≡ Counted (passes_of r)
     is_counted f = is_judged r p h ∙ rw (e, f) refl
 
   number_told :
@@ -175,15 +174,3 @@ module _ (m : Matrix) (p : Passes) (h : PassesPromise m p) where
     -- "where 8 applies, it answers 8 together with the passes begun up to there, stages not reached counting 0"
     pub left_with : Leaves m → passes_told p ≡ (Refused 8, some (begun_of r))
     left_with l = ap passes_told (is_left r e (leaves_by r l))
-
-    -- "at most one more than the magnitude of that stage's first pivot, or 0 where none exists", in both cases
-    pub bounded : (s : Stages) × ((passes_told p).1 ≡ some s) × AtMost r s
-    bounded = by (all small (all_assigned r)) refl
-      where
-        by : (b : Bool) → all small (all_assigned r) ≡ b → (s : Stages) × ((passes_told p).1 ≡ some s) × AtMost r s
-        by false f = (begun_of r, ap (λ q. (passes_told q).1) (is_left r e f), begun_at_most r)
-        by true f = (
-          passes_of r,
-          ap (λ q. (passes_told q).1) (is_counted r e f),
-          subst (AtMost r) (all-begun r f) (begun_at_most r),
-        )

@@ -1,10 +1,10 @@
 -- Every run of the diagonalisation: L M R = D with L and R of determinant 1 or -1, D diagonal and not below 0; there is
 -- one run and no other, and its stages are short.
-use Rattle.std.specs.Prelude.{ℕ, zero, suc, ◌*◌, ◌<◌, ◌≤◌, ◌≡◌, refl, cond, List, [], ◌∷◌, T, eqb, length, ℤ, pos, nat_abs, ◌*ℤ◌}
+use Rattle.std.specs.Prelude.{ℕ, zero, suc, ◌*◌, ◌<◌, ◌≡◌, refl, cond, List, [], ◌∷◌, T, eqb, ℤ, pos, nat_abs, ◌*ℤ◌}
 use Rattle.std.proofs.Common.{sym, ap, ◌∙◌, arith}
 use Rattle.std.specs.Int.Signed.{non_neg, pos-nat_abs}
 use Rattle.definitions.specs.Matrix.{Matrix, at, mul_m, det}
-use Rattle.definitions.specs.Snf.{State, pivot, start, Run}
+use Rattle.definitions.specs.Snf.{State, start, Run}
 use Rattle.math_matrix.specs.Solve.{Expr, var, con, ◌⊗◌, eval, solve}
 use Rattle.math_matrix.specs.Exprs.{entries_e, det_e}
 use Rattle.math_matrix.specs.Laws.{Three, det-mul}
@@ -13,7 +13,7 @@ use Rattle.math_snf_laws.specs.Steps.{In, i00, i01, i02, i11, i22, in_le}
 use Rattle.math_snf_laws.specs.Stable.{Stable, stable_stage}
 use Rattle.math_snf_laws.specs.Kept.{Kept, kept, kept_start}
 use Rattle.math_snf_laws.specs.Done.{Done, done_none}
-use Rattle.math_snf_laws.specs.Stages.{done-stage, most, stage-passes, stage_found}
+use Rattle.math_snf_laws.specs.Stages.{done-stage, stage_found}
 
 -- what the steps of every stage keep, a run keeps
 pub stable_run : (Q : State → Type 0) {m : Matrix} → ((s : ℕ) → Stable s Q) → (r : Run m) → Q (start m) → Q r.third
@@ -86,7 +86,7 @@ module _ {m : Matrix} (r : Run m) where
   pub product : Three m → nat_abs (at r.third.d 0 0) * nat_abs (at r.third.d 1 1) * nat_abs (at r.third.d 2 2) ≡ nat_abs (det m)
   product h =
       sym (ap nat_abs (det-diagonal r.third.d ended) ∙ abs-mul (at r.third.d 0 0 *ℤ at r.third.d 1 1) (at r.third.d 2 2) ∙ ap (λ (k : ℕ). k * nat_abs (at r.third.d 2 2)) (abs-mul (at r.third.d 0 0) (at r.third.d 1 1)))
-      ∙ ap (λ (x : Matrix). nat_abs (det x)) (sym (lmr h))
+      ∙ ap (λ (x : Matrix). nat_abs (det x)) (sym (held h).lmr)
       ∙ ap nat_abs (det-mul (mul_m r.third.l m) r.third.r)
       ∙ abs-mul (det (mul_m r.third.l m)) (det r.third.r)
       ∙ ap (λ (k : ℕ). k * nat_abs (det r.third.r)) (ap nat_abs (det-mul r.third.l m) ∙ abs-mul (det r.third.l) (det m))
@@ -94,16 +94,6 @@ module _ {m : Matrix} (r : Run m) where
     where
       ones : {a b c : ℕ} → a ≡ 1 → c ≡ 1 → a * b * c ≡ b
       ones {a} {b} {c} e f = ap (λ (k : ℕ). k * b * c) e ∙ ap (λ (k : ℕ). 1 * b * k) f ∙ omega arith
-
-  -- the passes of each stage: none without a pivot, else at most one more than its magnitude
-  pub passes₀ : length r.assigned₀ ≤ most m (pivot 0 m)
-  passes₀ = stage-passes i00 r.stage₀
-
-  pub passes₁ : length r.assigned₁ ≤ most r.first.d (pivot 1 r.first.d)
-  passes₁ = stage-passes i11 r.stage₁
-
-  pub passes₂ : length r.assigned₂ ≤ most r.second.d (pivot 2 r.second.d)
-  passes₂ = stage-passes i22 r.stage₂
 
 pub every : (m : Matrix) → Run m
 every m =

@@ -79,5 +79,11 @@ find : {s : ℕ} (n : ℕ) → In s s → (t : State) → Below s n t → Found 
 find {s} zero i t h = at_pivot i t h (λ m l u b. absurd (omega arith)) (pivot s t.d) refl
 find {s} (suc n) i t h = at_pivot i t h (λ m l u b. find n i u (λ p e f. le_trans (b p e f) (le_of_suc-le-suc l))) (pivot s t.d) refl
 
+-- more than the pivot's magnitude
+above_pivot : Matrix → Option Place → ℕ
+above_pivot m none = 0
+above_pivot m (some p) = suc (size_at m p)
+
 pub stage_found : {s : ℕ} → In s s → (t : State) → (a : List (List ℤ)) × (u : State) × Stage s t a u
-stage_found {s} i t = find (most t.d (pivot s t.d)) i t (λ p e f. rw e (omega arith))
+unfolding above_pivot
+stage_found {s} i t = find (above_pivot t.d (pivot s t.d)) i t (λ p e f. rw e (omega arith))

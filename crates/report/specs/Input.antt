@@ -8,7 +8,8 @@ use Rattle.definitions.specs.Job.{NoJob, job_of}
 use Rattle.definitions.specs.Standardize.{Answer, IsAnswer, OfParts, bytes_conditions, BytesReturn}
 use Rattle.definitions.specs.Report.{report}
 use Rattle.definitions.specs.WholeCalls.{ample, ReportPromise}
-use Rattle.laws.specs.Order.{numbered, refused_first}
+use Rattle.laws.specs.Order.{numbered}
+use Rattle.laws.proofs.Order.{refused_first}
 
 abbrev pub input_bytes : ℕ
 input_bytes = suc most_bytes

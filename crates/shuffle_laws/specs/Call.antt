@@ -8,7 +8,8 @@ use Rattle.definitions.specs.Lists.{count}
 use Rattle.definitions.specs.Refusal.{Checked, padded}
 use Rattle.definitions.specs.Shuffle.{shuffled}
 use Rattle.definitions.specs.Calls.{shuffle_conditions, ShufflePromise}
-use Rattle.laws.specs.Order.{numbered, checked_unique}
+use Rattle.laws.specs.Order.{numbered}
+use Rattle.laws.proofs.Order.{checked_unique}
 use Rattle.laws.specs.Verdicts.{untested, is_true, is_false, verdict_of, checked}
 use Rattle.base_permutation.specs.Bijection.{each_once}
 use Rattle.shuffle_laws.specs.Shuffled.{shuffled-permutes, length-shuffled}

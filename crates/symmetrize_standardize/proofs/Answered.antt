@@ -28,7 +28,7 @@ use Rattle.laws.specs.Counting.{all_of}
 use Rattle.laws.specs.Verdicts.{HoldsAt, Passed, pass, found_at_lem, found_none, refuse, accept, verdict_of}
 use Rattle.math_matrix.specs.Laws.{Three}
 use Rattle.base_cell.proofs.Tables.{length-multiplicities}
-use Rattle.base_transformation_laws.specs.Listed.{positions_count as listed-count}
+use Rattle.base_transformation_laws.proofs.Listed.{positions_count as listed-count}
 use Rattle.symmetrize_wyckoff_laws.specs.Unique.{equal_sites}
 use Rattle.symmetrize_wyckoff.specs.Unfit.{lettered_or_unfit}
 use Rattle.symmetrize_standardize_laws.specs.Same.{same-design}

@@ -34,7 +34,7 @@ use Rattle.math_matrix.specs.Laws.{Three}
 use Rattle.math_snf_laws.specs.Unique.{run_unique}
 use Rattle.base_cell.specs.Grouping.{OrbitsLabelled}
 use Rattle.base_cell.proofs.Tables.{length-multiplicities}
-use Rattle.base_transformation_laws.specs.Listed.{positions_count as listed-count}
+use Rattle.base_transformation_laws.proofs.Listed.{positions_count as listed-count}
 use Rattle.symmetrize_standardize_laws.specs.Found.{positions_count}
 use Rattle.symmetrize_standardize.specs.Stages.{CellListed, assigning, label_cells, OrbitsLettered, told_by, Finished, Uncleared}
 use Rattle.symmetrize_standardize.proofs.General.{promised_checked, promised_answer}

@@ -29,7 +29,7 @@ use Rattle.laws.specs.Verdicts.{Passed}
 use Rattle.math_matrix.specs.Laws.{Three}
 use Rattle.base_cell.specs.Grouping.{OrbitsLabelled}
 use Rattle.base_cell.specs.Maps.{permutations-map}
-use Rattle.base_transformation_laws.specs.Covered.{run-points-count}
+use Rattle.base_transformation_laws.proofs.Covered.{run-points-count}
 use Rattle.symmetrize_standardize_laws.specs.Found.{positions_count, aligned-permutations}
 use Rattle.symmetrize_standardize.proofs.Facts.{site-count, of_operations, of_targets, of_positions}
 use Rattle.symmetrize_standardize.proofs.Ladder.{conditions, aligned_room}

@@ -9,7 +9,8 @@ use lib.Dec.{T, eqb_refl, eqb→eq}
 use Rattle.definitions.specs.declared.Verdict.{Verdict}
 use Rattle.definitions.specs.declared.Verdict.TheVariants.{Accepted, Refused}
 use Rattle.definitions.specs.Refusal.{Condition, Applies, Checked, accepted, refused, Returns, Promised}
-use Rattle.laws.specs.Order.{numbered, checked_unique}
+use Rattle.laws.specs.Order.{numbered}
+use Rattle.laws.proofs.Order.{checked_unique}
 use Rattle.laws.specs.Verdicts.{HoldsAt, Passed, pass, found_at_lem, refuse, verdict_of}
 use Rattle.symmetrize_standardize.specs.Stages.{refused_with, then_verdict}
 

@@ -1,7 +1,7 @@
 -- Demand 3 of the contracts of the whole call: what is told and what the lent cells hold, for a job past every refusal
 -- checked before 13.
 use Rattle.std.specs.Prelude.{ℕ, ◌≡◌, refl, ◌↔◌, List, length}
-use Rattle.std.proofs.Common.{sym, ap, ◌∙◌, subst, arith}
+use Rattle.std.proofs.Common.{ap, ◌∙◌, subst, arith}
 use Rattle.definitions.specs.declared.Standardized.{Standardized}
 use Rattle.definitions.specs.declared.Standardized.TheVariants as standardized
 use Rattle.definitions.specs.Refusal.{Condition, Past, orbit_fit, Outcome, accepted, refused}
@@ -10,10 +10,7 @@ use Rattle.definitions.specs.Symmetrization.{primitive_positions}
 use Rattle.definitions.specs.Wyckoff.{Unfit}
 use Rattle.definitions.specs.Standardize.{Answer, Work, lettering_of, answer_of, site_count}
 use Rattle.definitions.specs.WholeCalls.{AnswerCells, HoldsAnswer, nothing_answered, told_whole, WholePromised, WholeAnswered}
-use Rattle.definitions.specs.WholeCalls.{ListsPromise, BytesPromise}
 use Rattle.definitions.specs.Demand.{Copies, listed, WholeCall, DemandOfWhole}
-use Rattle.symmetrize_standardize_laws.specs.Calls.{BytesArguments, bytes_call, ListsArguments, lists_call}
-use Rattle.symmetrize_standardize_laws.specs.Whole.{whole_lists, whole_bytes}
 
 -- The job j, what is told of it, and the lent cells before and after.
 pub record CellsAnswer (j : Job) (entry exit : AnswerCells) (told : Standardized) : Type 0 where
@@ -70,7 +67,7 @@ module _
           λ u. let f : ◌≡◌ {A = Outcome Answer} (refused k) (refused orbit_fit) = (exactly (refused k) p).1 u in cc,
         )
 
-    answered : WholePromised cs Is entry exit told → CellsAnswer j entry exit told
+    pub answered : WholePromised cs Is entry exit told → CellsAnswer j entry exit told
     answered h =
         record {
           work = work;
@@ -80,15 +77,3 @@ module _
           refuses = refuses h;
           thirteen = thirteen h;
         }
-
--- of the call on lists: its contract is `ListsPromise`
-pub lists-answered :
-    (x : ListsArguments) (j : Job) → lists_call.IsJob x j → Past orbit_fit (lists_call.conditions x) →
-    (exit : AnswerCells) (told : Standardized) → ListsPromise x.given x.entry exit told → CellsAnswer j x.entry exit told
-lists-answered x j is past exit told = answered lists_call whole_lists x j is past _ _ x.entry exit (λ o h. (exit, h)) told
-
--- of the call on bytes: its contract is `BytesPromise`
-pub bytes-answered :
-    (x : BytesArguments) (j : Job) → bytes_call.IsJob x j → Past orbit_fit (bytes_call.conditions x) →
-    (exit : AnswerCells) (told : Standardized) → BytesPromise x.bytes x.entry exit told → CellsAnswer j x.entry exit told
-bytes-answered x j is past exit told = answered bytes_call whole_bytes x j is past _ _ x.entry exit (λ o h. (exit, h)) told

@@ -30,7 +30,8 @@ use Rattle.laws.specs.Tests.{passed, off, neither_left, neither_right}
 use Rattle.laws.specs.Lists.{all_cons, all_head, all_tail, all_mem, from_up_to, in_up_to, length-up_from}
 use Rattle.laws.specs.Order.{FailBefore, past_before}
 use Rattle.base_cell.specs.Maps.{Permutations, permutations-all}
-use Rattle.base_cell.specs.Labels.{labels_by, labels_computed}
+use Rattle.base_cell.specs.Labels.{labels_by}
+use Rattle.base_cell.proofs.ClassLabels.{labels_computed}
 use Rattle.base_cell.specs.Classes.{classes}
 use Rattle.math_snf_laws.specs.Runs.{every}
 use Rattle.symmetrize_wyckoff.specs.Spaces.{spaces_found}

@@ -3,17 +3,16 @@ use Rattle.std.specs.Prelude.{ℕ, ◌≡◌, refl, Bool, true, false, List, [],
 use Rattle.std.proofs.Common.{sym, ap, ◌∙◌, subst, inl, inr, ⊎_elim}
 use Rattle.std.proofs.Math.Option.{Option, none, some}
 use Rattle.definitions.specs.Lists.{any}
-use Rattle.definitions.specs.Refusal.{Condition, ◌when◌, Applies, NoneOf, upto, precedence, Past, job_bytes, counts, orbit_fit, Outcome, accepted, refused, Returns}
+use Rattle.definitions.specs.Refusal.{Condition, ◌when◌, Applies, upto, precedence, Past, job_bytes, counts, orbit_fit, Outcome, accepted, refused, Returns}
 use Rattle.definitions.specs.Job.{Parts, Job, IsJob, NoJob, job_of}
 use Rattle.definitions.specs.Standardize.{Rooms, Rule, ◌says◌, rules, bytes_rules, job_conditions, OfParts, bytes_conditions, Answer, IsAnswer, JobReturns, BytesReturn}
-use Rattle.definitions.specs.WholeCalls.{Given, job_from, unlike_lists, lists_conditions, AnswerCells, HoldsAnswer, nothing_answered, rooms_of}
-use Rattle.definitions.specs.Demand.{IsOneJob, DemandOfWhole}
+use Rattle.definitions.specs.WholeCalls.{Given, job_from, unlike_lists, lists_conditions, rooms_of}
+use Rattle.definitions.specs.Demand.{IsOneJob}
 use Rattle.laws.specs.Order.{none_of, none_over, later_applies, applies_later}
-use Rattle.laws.specs.Verdicts.{answered_returns}
 use Rattle.math_matrix.specs.Laws.{Three}
-use Rattle.job_laws.specs.Decode.{decode, decode_sound, not_a_job, job_unique}
-use Rattle.symmetrize_standardize_laws.specs.Calls.{BytesArguments, bytes_call, ListsArguments, lists_call}
-use Rattle.symmetrize_standardize_laws.specs.Answers.{Answers, demand_of_whole}
+use Rattle.job_laws.specs.Decode.{decode}
+use Rattle.job_laws.proofs.Decode.{decode_sound, not_a_job, job_unique}
+use Rattle.symmetrize_standardize_laws.specs.Calls.{bytes_call}
 
 -- what a call returns under conditions that apply alike
 pub returns_alike :
@@ -36,36 +35,18 @@ module _ (x : Given) (rooms : Rooms) where
   unfolding Applies any upto precedence
   like past h = none_of (lists_conditions x rooms) (upto orbit_fit precedence) counts tt past (inl h)
 
-  job_past : Past orbit_fit (lists_conditions x rooms) → Past orbit_fit of_job
+  pub job_past : Past orbit_fit (lists_conditions x rooms) → Past orbit_fit of_job
   job_past = none_over of_job (lists_conditions x rooms) (later_applies head of_job) (upto orbit_fit precedence)
 
-  lists_return :
+  pub lists_return :
       Past orbit_fit (lists_conditions x rooms) → (o : Outcome Answer) → Returns (lists_conditions x rooms) (IsAnswer (job_from x)) o →
       JobReturns (job_from x) rooms o
   lists_return past =
       returns_alike (lists_conditions x rooms) of_job (IsAnswer (job_from x)) (λ k. applies_later head of_job k (like past)) (later_applies head of_job)
 
-shape_of : (x : Given) → Three x.c → Three (job_from x).c
+pub shape_of : (x : Given) → Three x.c → Three (job_from x).c
 unfolding job_from
 shape_of x h = h
-
--- Demand 3 of the promise of the whole call on lists.
-pub whole_lists : DemandOfWhole lists_call
-whole_lists = demand_of_whole lists_call answers
-  where
-    answers : Answers lists_call
-    answers =
-        record {
-          rooms = λ x. rooms_of x.entry;
-          one_job = λ x past. (job_from x.given, refl, λ k e. sym e);
-          shape = λ x j e. subst (λ h. Three h.c) e (shape_of x.given x.shape);
-          past = λ x j e p. subst (λ h. Past orbit_fit (job_conditions h (rooms_of x.entry))) e (job_past x.given (rooms_of x.entry) p);
-          returns = λ x j e p o h.
-              subst (λ h. JobReturns h (rooms_of x.entry) o) e
-              (lists_return x.given (rooms_of x.entry) p o
-              (answered_returns (lists_conditions x.given (rooms_of x.entry)) (IsAnswer (job_from x.given)) (HoldsAnswer x.entry h.0)
-              (HoldsAnswer x.entry h.0 nothing_answered) o h.1));
-        }
 
 -- ---- on bytes
 
@@ -118,22 +99,22 @@ module _ (bs : List ℕ) (rooms : Rooms) (p : Parts) (i : IsJob bs p) (j : Job) 
   unfolding Applies any upto precedence
   is_job past n = none_of (bytes_conditions bs rooms) (upto orbit_fit precedence) job_bytes tt past (inl n)
 
-  bytes_past : Past orbit_fit (bytes_conditions bs rooms) → Past orbit_fit (job_conditions j rooms)
+  pub bytes_past : Past orbit_fit (bytes_conditions bs rooms) → Past orbit_fit (job_conditions j rooms)
   bytes_past = none_over (job_conditions j rooms) (bytes_conditions bs rooms) job_to_bytes (upto orbit_fit precedence)
 
-  job_returns : Past orbit_fit (bytes_conditions bs rooms) → (o : Outcome Answer) → BytesReturn bs rooms o → JobReturns j rooms o
+  pub job_returns : Past orbit_fit (bytes_conditions bs rooms) → (o : Outcome Answer) → BytesReturn bs rooms o → JobReturns j rooms o
   unfolding Returns
   job_returns past (accepted a) h =
       (none_over (job_conditions j rooms) (bytes_conditions bs rooms) job_to_bytes precedence h.0, of_parts (λ k. IsAnswer k a) h.1)
   job_returns past (refused k) h =
       (bytes_to_job (is_job past) k h.0, none_over (job_conditions j rooms) (bytes_conditions bs rooms) job_to_bytes (upto k precedence) h.1)
 
-three_of : (p : Parts) → Three (job_of p).c
+pub three_of : (p : Parts) → Three (job_of p).c
 unfolding job_of
 three_of p = refl
 
 -- bytes past 1 are a job's
-one_job : IsOneJob bytes_call
+pub one_job : IsOneJob bytes_call
 unfolding Applies any upto precedence
 one_job x past = by (decode x.bytes) refl
   where
@@ -148,20 +129,3 @@ one_job x past = by (decode x.bytes) refl
     by (some p) e =
         let i = decode_sound x.bytes p e x.are_bytes_lem in
         (job_of p, (p, i, refl), λ k q. sym q.2 ∙ ap job_of (job_unique x.bytes q.0 p q.1 i))
-
--- Demand 3 of the promise of the whole call on bytes.
-pub whole_bytes : DemandOfWhole bytes_call
-whole_bytes = demand_of_whole bytes_call answers
-  where
-    answers : Answers bytes_call
-    answers =
-        record {
-          rooms = λ x. rooms_of x.entry;
-          one_job = one_job;
-          shape = λ x j i. subst (λ h. Three h.c) i.2 (three_of i.0);
-          past = λ x j i. bytes_past x.bytes (rooms_of x.entry) i.0 i.1 j i.2;
-          returns = λ x j i past o h.
-              job_returns x.bytes (rooms_of x.entry) i.0 i.1 j i.2 past o
-              (answered_returns (bytes_conditions x.bytes (rooms_of x.entry)) (λ a. OfParts x.bytes (λ p. IsAnswer (job_of p) a))
-              (HoldsAnswer x.entry h.0) (HoldsAnswer x.entry h.0 nothing_answered) o h.1);
-        }

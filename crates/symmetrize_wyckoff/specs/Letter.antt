@@ -12,10 +12,11 @@ use Rattle.definitions.specs.SiteCalls.{LetterArguments, design_from, candidates
 use Rattle.definitions.specs.SiteCalls.{letter_rooms, IsLettered, HoldsLetters, nothing_lettered, LetterAnswered}
 use Rattle.definitions.specs.Demand.{LetteringCall, HasJustTheLetters, ThirteenExactly, DemandOfLettering}
 use Rattle.laws.specs.Tests.{off, neither_left, neither_right}
-use Rattle.laws.specs.Order.{FailBefore, past_before, numbered, refused_first}
+use Rattle.laws.specs.Order.{FailBefore, past_before, numbered}
+use Rattle.laws.proofs.Order.{refused_first}
 use Rattle.laws.specs.Verdicts.{answered_returns}
 use Rattle.base_cell.specs.Maps.{Permutations}
-use Rattle.base_cell.specs.Labelling.{given_permutations, given_labels}
+use Rattle.base_cell.proofs.Labelling.{given_permutations, given_labels}
 use Rattle.symmetrize_wyckoff_laws.specs.Unique.{equal_sites}
 use Rattle.symmetrize_wyckoff.specs.Spaces.{spaces_found, alike_texts}
 use Rattle.symmetrize_wyckoff.specs.Lettered.{Letters, demand_of_lettering}

@@ -8,7 +8,7 @@ use Rattle.definitions.specs.Wyckoff.{Lettering, Found, Unfit, sites_of, orbit_w
 use Rattle.definitions.specs.Demand.{FittingCall, PastBefore13, HasDesign, ThirteenExactly, LetteringCall, HasJustTheLetters, Alike, JoinTheSame}
 use Rattle.definitions.specs.Demand.{AlikeFree, OrderFree, DemandOfLettering}
 use Rattle.base_cell.specs.Maps.{Permutations}
-use Rattle.base_cell.specs.Rearranged.{any_size}
+use Rattle.base_cell.proofs.Rearranged.{any_size}
 use Rattle.symmetrize_wyckoff_laws.specs.Unique.{alike_sites, sites_unique}
 
 -- designs that are alike and joined alike are both without a fit or neither

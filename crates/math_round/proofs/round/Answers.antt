@@ -7,7 +7,8 @@ use lib.Ieee.{Float, binary64, fits}
 use borrow.Author.Rules.{rules}
 use Rattle.definitions.specs.Real.{round_away, IsRound}
 use Rattle.math_round.specs.Nearest.{round_is_nearest}
-use Rattle.math_round.specs.Cases.{Special, Nearest, Tie, StepOf, just_one}
+use Rattle.math_round.specs.Cases.{Special, Nearest, Tie, StepOf}
+use Rattle.math_round.proofs.OneCase.{just_one}
 use Rattle.math_round.specs.declared.cases.Step.{Step}
 use Rattle.math_round.specs.declared.cases.Step.TheVariants.{Settled, Open}
 use Rattle.math_round.proofs.round.Goals as goal

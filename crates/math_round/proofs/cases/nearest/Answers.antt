@@ -10,7 +10,8 @@ use lib.Ieee.{Float}
 use borrow.Author.Rules.{rules}
 use borrow.Author.Tests.{ltb-true, ltb-false}
 use Rattle.definitions.specs.Real.{round_away}
-use Rattle.math_round.specs.Cases.{Nearest, just_one}
+use Rattle.math_round.specs.Cases.{Nearest}
+use Rattle.math_round.proofs.OneCase.{just_one}
 use Rattle.math_round.specs.Pattern.{signed, Parted, Measures, by_parts}
 use Rattle.math_round.specs.declared.pattern.Parts.{Parts}
 use Rattle.math_round.specs.declared.pattern.Magnitude.TheVariants.{Special, Whole}

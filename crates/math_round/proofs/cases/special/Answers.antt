@@ -4,7 +4,8 @@ use mathlib.Core.Path.{◌≡◌, sym, subst}
 use mathlib.Core.Logic.{◌⊎◌, inl, inr}
 use lib.Ieee.{Float}
 use borrow.Author.Rules.{rules}
-use Rattle.math_round.specs.Cases.{Nearest, just_one}
+use Rattle.math_round.specs.Cases.{Nearest}
+use Rattle.math_round.proofs.OneCase.{just_one}
 use Rattle.math_round.specs.Cases as Cases
 use Rattle.math_round.specs.Rounded.{special_is_its_own}
 use Rattle.math_round.specs.Pattern.{Parted, Measures, by_parts, nearest_or_half}

@@ -5,7 +5,8 @@ use mathlib.Core.Logic.{◌⊎◌, inl, inr}
 use native.Mathlib.Omega.{arith}
 use lib.Ieee.{Float}
 use borrow.Author.Rules.{rules}
-use Rattle.math_round.specs.Cases.{Nearest, Tie, just_one}
+use Rattle.math_round.specs.Cases.{Nearest, Tie}
+use Rattle.math_round.proofs.OneCase.{just_one}
 use Rattle.math_round.specs.Pattern.{signed, Parted, Measures, by_parts, nearest_or_half}
 use Rattle.math_round.specs.declared.pattern.Parts.{Parts}
 use Rattle.math_round.specs.declared.pattern.Magnitude.TheVariants.{Special, Whole}

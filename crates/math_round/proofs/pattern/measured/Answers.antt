@@ -9,8 +9,9 @@ use lib.Ieee.{Float, nan, inf, fin, binary64, fits, is_nan, ne}
 use lib.Ieee.Compare.{differs_from_itself, nan_differs}
 use borrow.Author.Rules.{rules}
 use Rattle.math_round.specs.Cases.{Special}
-use Rattle.math_round.specs.Pattern.{field_of, bits_of, zero_is_special, infinite_is_special, other_is_not}
-use Rattle.math_round.specs.Pattern.{whole_is_nearest, parted}
+use Rattle.math_round.specs.Pattern.{field_of, bits_of}
+use Rattle.math_round.proofs.ByPattern.{zero_is_special, infinite_is_special, other_is_not}
+use Rattle.math_round.proofs.ByPattern.{whole_is_nearest, parted}
 use Rattle.math_round.proofs.pattern.measured.Goals as goal
 
 no_number : (x : Float) → ne x x ≡ true → Special x

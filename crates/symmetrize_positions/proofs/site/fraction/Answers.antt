@@ -4,7 +4,7 @@ use mathlib.Core.Bool.{Bool, true, ◌&&◌}
 use lib.Dec.{T}
 use lib.Ieee.{binary64, fits}
 use Rattle.laws.specs.Tests.{so, true_of, both_pass}
-use Rattle.math_round.specs.Fraction.{off_whole_is}
+use Rattle.math_round.proofs.OffWhole.{off_whole_is}
 use borrow.Author.Rules.{rules}
 use Rattle.symmetrize_positions.proofs.site.fraction.Goals as goal
 

@@ -10,7 +10,7 @@ use Rattle.definitions.specs.Limits.{copies}
 use Rattle.math_matrix.specs.Laws.{Three}
 use Rattle.math_snf_laws.specs.Runs.{lmr, left_unit, right_unit, diagonal, factor as factor-of}
 use Rattle.base_transformation_laws.specs.Smith.{Smith, factor, diagonal_of}
-use Rattle.base_transformation_laws.specs.Points.{points-count, point_covers, covers}
+use Rattle.base_transformation_laws.proofs.Points.{points-count, point_covers, covers}
 
 module _ {c : Matrix} (shape : Three c) (regular : 0 < copies c) (r : Run c) where
   smith : Smith c r.third

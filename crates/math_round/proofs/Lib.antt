@@ -1,0 +1,3 @@
+pub mod OneCase
+pub mod OffWhole
+pub mod ByPattern
