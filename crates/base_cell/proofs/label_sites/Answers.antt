@@ -18,8 +18,9 @@ lent s = record { labels = s.args.labels.now; multiplicities = s.args.multiplici
 can_is : (c : After-put_orbits-arg-2-1) → c.match-v.can ≡ accepts c.label_verdict-v.result
 can_is c =
     elim c.match-v.branch [
-      in-Accepted w ↦ w.can-is ∙ ap accepts (sym w.in-Accepted.is)
-    | in-Refused w ↦ w.can-is ∙ ap accepts (sym w.in-Refused.is) ]
+      | in-Accepted w ↦ w.can-is ∙ ap accepts (sym w.in-Accepted.is)
+      | in-Refused w ↦ w.can-is ∙ ap accepts (sym w.in-Refused.is)
+    ]
 
 pub put_orbits-requires : goal.put_orbits-requires
 put_orbits-requires c =
