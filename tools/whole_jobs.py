@@ -1,7 +1,8 @@
 #!/usr/bin/env python3
 """The small whole jobs of crates/designs_jobs, with what the Rust answers to them.
 
-usage: whole_jobs.py ORACLE FOLDER      (FOLDER: crates/designs_jobs/specs; writes Jobs.antt and Matches.antt there)
+usage: whole_jobs.py ORACLE FOLDER      (FOLDER: crates/designs_jobs; writes specs/Jobs.antt, proofs/Jobs.antt and
+                                         specs/Matches.antt there, which rt fmt lays out)
 
 ORACLE is the program that runs moyo's own sources over document 01's stand-in arithmetic.
 Each job is built here byte by byte, given to `ORACLE moyo --full`, and what that prints (the
@@ -157,42 +158,49 @@ def outcome(lines):
         ("labels", numbers(s[9] for s in sites)),
         ("multiplicities", numbers(s[10] for s in sites)), ("letters", numbers(s[11] for s in sites)),
         ("primitive", listed(position(words[2:5]) for words in rest if words[0] == "primitive")),
-        ("primitiveBasis", basis(named["primitive-basis"])), ("listedBasis", basis(named["listed-basis"])),
+        ("primitive_cell_basis", basis(named["primitive-basis"])), ("listed_cell_basis", basis(named["listed-basis"])),
         ("factors", listed(whole(v) for v in named["factors"])),
         ("sites", head[1]), ("orbits", head[3])]
     return "accepted (record { %s })" % "; ".join("%s = %s" % f for f in fields)
 
 
-HEADER = """-- Small whole jobs: their bytes and their outcomes. One table, and one proof over it. Accepted, 11, 12 and 13 are as the Rust gives
--- them over the stand-in arithmetic, 1 to 10 by document 01. Made by tools/whole_jobs.py; not written by hand.
-use Prim.Native.Nat.{ℕ}
-use mathlib.Core.Path.{refl}
-use mathlib.Core.List.{List, [], _∷_}
-use lib.IntN.{ℤ, pos, negsuc}
-use Rattle·definitions.specs.Lists.{Each}
-use Rattle·definitions.specs.Refusal.{Outcome, accepted, refused}
-use Rattle·definitions.specs.Job.{float}
-use Rattle·definitions.specs.Standardize.{Rooms, Answer}
-use Rattle·definitions.specs.WholeCalls.{ample}
-use Rattle·designs.specs.Evaluate.{Whole, Returned, evaluate, returned}
+HEADER = """-- Small whole jobs: their bytes and their outcomes. One table; the one proof over it stands in proofs/. Accepted, 11, 12
+-- and 13 are as the Rust gives them over the stand-in arithmetic, 1 to 10 by document 01. Made by tools/whole_jobs.py; not written by hand.
+use Rattle.std.specs.Prelude.{refl, List, [], ◌∷◌, pos}
+use Rattle.definitions.specs.Refusal.{accepted, refused}
+use Rattle.definitions.specs.Job.{float}
+use Rattle.definitions.specs.WholeCalls.{ample}
+use Rattle.designs.specs.Evaluate.{Whole, Returned, evaluate, returned}
+
+"""
+
+# what rests on every row stands in proofs/, so that an edit of a row is refused at the row
+PROOF_HEADER = """-- Every small whole job has its outcome.
+use Rattle.definitions.specs.Lists.{Each}
+use Rattle.designs.specs.Evaluate.{Returned}
+use Rattle.designs_jobs.specs.Jobs.{%s, jobs}
 
 """
 
 
-
-def table(kind, rows, right, by, opened):
-    """Rows as declarations, each with its proof by computing, and the list of them with one proof. A row at a time: a task of the
+def rows_of(kind, rows, right, by, opened, pub):
+    """Rows as declarations, each with its proof by computing, and the list of them. A row at a time: a task of the
     checker has a limit of steps."""
     out = []
     for k, (words, value) in enumerate(rows):
-        out.append("-- %s\nabbrev %s-%d : %s\n%s-%d = %s\n" % (words, kind, k, KINDS[kind], kind, k, value))
-        out.append("is-%d : %s %s-%d\nunfolding %s\nis-%d = %s %s-%d refl\n" % (k, right, kind, k, opened, k, by, kind, k))
-    names = ["%s-%d" % (kind, k) for k in range(len(rows))]
+        out.append("-- %s\nabbrev %s_%d : %s\n%s_%d = %s\n" % (words, kind, k, KINDS[kind], kind, k, value))
+        out.append("%sis_%d : %s %s_%d\nunfolding %s\nis_%d = %s %s_%d refl\n" % (
+            pub, k, right, kind, k, opened, k, by, kind, k))
+    names = ["%s_%d" % (kind, k) for k in range(len(rows))]
     out.append("unfoldable pub %s : List %s\n%s = %s\n" % (TABLES[kind], KINDS[kind], TABLES[kind], listed(names)))
-    proofs = "".join("(is-%d, " % k for k in range(len(rows))) + "tt" + ")" * len(rows)
-    out.append("pub %s-right : Each %s %s\nunfolding Each %s\n%s-right = %s\n" % (
-        TABLES[kind], right, TABLES[kind], TABLES[kind], TABLES[kind], proofs))
     return "\n".join(out)
+
+
+def proof_of(kind, rows, right):
+    """The one proof over all rows."""
+    proofs = "".join("(is_%d, " % k for k in range(len(rows))) + "tt" + ")" * len(rows)
+    return "pub %s_right : Each %s %s\nunfolding Each %s\n%s_right = %s\n" % (
+        TABLES[kind], right, TABLES[kind], TABLES[kind], TABLES[kind], proofs)
 
 
 KINDS = {"job": "Whole", "match": "Matched"}
@@ -227,7 +235,9 @@ def whole_jobs(oracle):
     rows.append(row("room for just the answer", worked, rooms(), outcome(out.decode().splitlines())))
     for name in ROOMS:
         rows.append(row("room for one entry less in the list of " + name, worked, rooms(name), "refused 10"))
-    return HEADER + table("job", rows, "Returned", "returned", "evaluate")
+    names = ", ".join("is_%d" % k for k in range(len(rows)))
+    return (HEADER + rows_of("job", rows, "Returned", "returned", "evaluate", "pub "),
+            PROOF_HEADER % names + proof_of("job", rows, "Returned"))
 
 
 # position, coordinates and symprec of a match in the unit cell
@@ -238,14 +248,14 @@ MATCHES = [
     ((-0.0, 0, 0), "x,0,0", 5e-324), ((0.2, 0, 0), "x,x,x", 0.2),
 ]
 
-MATCH_HEADER = """-- Matches with their places and distances, as the Rust gives them over the stand-in arithmetic. One table, and one proof over it.
+MATCH_HEADER = """-- Matches with their places and distances, as the Rust gives them over the stand-in arithmetic. One table, and one
+-- proof over it.
 -- Made by tools/whole_jobs.py; not written by hand.
-use mathlib.Core.Path.{refl}
-use mathlib.Core.List.{List, [], _∷_}
-use Rattle·definitions.specs.declared.Match.the-variants.{Fits, Misses}
-use Rattle·definitions.specs.Lists.{Each}
-use Rattle·definitions.specs.Job.{float}
-use Rattle·designs.specs.Evaluate.{Matched, MatchedRight, matchEvaluated, matched}
+use Rattle.std.specs.Prelude.{refl, List, [], ◌∷◌}
+use Rattle.definitions.specs.declared.Match.TheVariants.{Fits, Misses}
+use Rattle.definitions.specs.Lists.{Each}
+use Rattle.definitions.specs.Job.{float}
+use Rattle.designs.specs.Evaluate.{Matched, MatchedRight, match_evaluated, matched}
 
 """
 
@@ -265,12 +275,14 @@ def matches(oracle):
         rows.append(("%s at %s, symprec %s" % (text, p, symprec),
                      "record { position = %s; text = %s; symprec = float 0x%s; match = %s }" % (
                          position(listed_at), numbers(text.encode().ljust(64)), struct.pack(">d", symprec).hex(), value)))
-    return MATCH_HEADER + table("match", rows, "MatchedRight", "matched", "matchEvaluated")
+    return (MATCH_HEADER + rows_of("match", rows, "MatchedRight", "matched", "match_evaluated", "")
+            + "\n" + proof_of("match", rows, "MatchedRight"))
 
 
 def main():
     oracle, folder = sys.argv[1:]
-    for name, text in (("Jobs", whole_jobs(oracle)), ("Matches", matches(oracle))):
+    jobs, proof = whole_jobs(oracle)
+    for name, text in (("specs/Jobs", jobs), ("proofs/Jobs", proof), ("specs/Matches", matches(oracle))):
         with open("%s/%s.antt" % (folder, name), "w") as f:
             f.write(text)
 

@@ -1,6 +1,5 @@
--- Whether sites are joined, decided by classes: two sites have one class just if they are joined. They are found by
--- quick-find: each site has
--- a class, and each image merges two.
+-- Whether sites are joined, decided by classes. They are found by quick-find: each site has a class, and each image
+-- merges two. That two sites have one class just if they are joined stands in proofs/.
 use Prim.Native.Nat.{ℕ, suc, ◌<◌}
 use Rattle.std.specs.Prelude.{◌≡◌, refl, Bool, true, false, ◌↔◌, length, eqb}
 use Rattle.std.proofs.Math.Path.{sym}

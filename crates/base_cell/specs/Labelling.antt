@@ -1,4 +1,4 @@
--- The label call: labels that are there, just these in an accepted answer, whatever the order of the permutations.
+-- The label call: arguments past 5. Its labels, whatever the order of the permutations, stand in proofs/.
 use Rattle.std.specs.Prelude.{ℕ, ◌≡◌, false, List, T}
 use Rattle.definitions.specs.Lists.{all, up_to}
 use Rattle.definitions.specs.Permutation.{is_permutation, permutation_at}

@@ -1,4 +1,4 @@
--- The list call: each primitive site's copies, each with its place, position and point, and none missing or twice.
+-- The list call as demand 3 speaks of it; that none of its copies is missing or twice stands in proofs/.
 use Rattle.std.specs.Prelude.{ℕ, ◌+◌, ◌*◌, ◌<◌, ◌≡◌, get_or, ℤ, Float}
 use Rattle.std.proofs.Common.{◌∙◌}
 use mathlib.Core.List.{List, map}

@@ -1,5 +1,5 @@
--- The centring vectors of International Tables A, a table of its own, and that the points of each centring are just
--- these.
+-- The centring vectors of International Tables A, a table of its own. That the points of each centring are just these
+-- stands in proofs/.
 use Rattle.std.specs.Prelude.{ℕ, suc, ◌-◌, ◌*◌, ◌%◌, Bool, ◌&&◌, List, [], ◌∷◌, map, length, T, eqb, ℤ, pos, negsuc, nat_abs}
 use Rattle.std.proofs.Math.Option.{Option, none, some}
 use Rattle.definitions.specs.declared.Centering.{Centering}

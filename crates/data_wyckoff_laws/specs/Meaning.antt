@@ -1,4 +1,4 @@
--- The rows of a triplet mean what the triplet says: RowsMeanTheTriplet.
+-- What the rows of a triplet add up to, for proofs/Meaning.antt: they mean what the triplet says.
 use Rattle.std.specs.Prelude.{ℕ, ◌*◌, ◌/◌, ◌≡◌, ℤ, pos, neg_ℤ, ◌+ℤ◌, ◌*ℤ◌}
 use Rattle.std.proofs.Math.IntN.{zero-*ℤ, *ℤ-zero, +ℤ_idl, +ℤ_idr}
 use Rattle.definitions.specs.Matrix.{dot}

@@ -1,4 +1,5 @@
--- Request M-113 of document 02: the passes of its own figures. One table, and one proof over it.
+-- Request M-113 of document 02: the passes of its own figures. One table; the one
+-- proof over it stands in proofs/.
 use Rattle.std.specs.Prelude.{ℕ, ◌≡◌, refl, List, [], ◌∷◌, ℤ, pos, negsuc}
 use Rattle.std.proofs.Common.{subst}
 use Rattle.std.proofs.Math.Option.{Option, none, some, none-ne-some, some-injective}

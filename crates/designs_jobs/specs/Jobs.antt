@@ -1,6 +1,5 @@
--- Small whole jobs: their bytes and their outcomes. One table, and one proof over it. Accepted, 11, 12 and 13 are as
--- the Rust gives
--- them over the stand-in arithmetic, 1 to 10 by document 01. Made by tools/whole_jobs.py; not written by hand.
+-- Small whole jobs: their bytes and their outcomes. One table; the one proof over it stands in proofs/. Accepted, 11, 12
+-- and 13 are as the Rust gives them over the stand-in arithmetic, 1 to 10 by document 01. Made by tools/whole_jobs.py; not written by hand.
 use Rattle.std.specs.Prelude.{refl, List, [], ◌∷◌, pos}
 use Rattle.definitions.specs.Refusal.{accepted, refused}
 use Rattle.definitions.specs.Job.{float}

@@ -1,4 +1,4 @@
--- A job's bytes are read back: at most one job has them.
+-- A job's bytes, read. That they are read back, and that at most one job has them, stands in proofs/.
 use Rattle.std.specs.Prelude.{ℕ, List, [], ◌∷◌, ℤ}
 use Rattle.std.proofs.Math.Option.{Option, none, some}
 use Rattle.definitions.specs.Job.{Parts, SitePart, OperationPart, CandidatePart}

@@ -1,4 +1,4 @@
--- The worked job of document 01, byte by byte, and bytes that are no job.
+-- The worked job of document 01, byte by byte. That it is read, and some bytes that are no job, stand in proofs/.
 use Rattle.std.specs.Prelude.{ℕ, ◌≡◌, refl, List, [], ◌∷◌, ◌++◌, length, replicate, ℤ, pos, negsuc}
 use Rattle.definitions.specs.Job.{Parts}
 

@@ -1,5 +1,5 @@
--- The cases of rounding to a whole number, in the order of IEEE 754's text: special values, nearest, then the tie. Each
--- float is in just one of them.
+-- The cases of rounding to a whole number, in the order of IEEE 754's text: special values, nearest, then the tie. That
+-- each float is in just one of them stands in proofs/OneCase.antt.
 use Rattle.std.specs.Prelude.{ℕ, suc, ◌+◌, ◌*◌, ◌-◌, ◌/◌, ◌%◌, ◌^◌, ◌≤◌, ◌<◌, ◌≡◌, false, ◌⊎◌, T, Float}
 use Rattle.std.proofs.Common.{sym, ap, ◌∙◌, subst, inl, inr, arith, le_antisymm, lt_of_not-le, mod-lt, mul-le-mul_right, mul-lt-mul_of_pos_right, lt_of_mul-lt-mul_right, pow_pos}
 use Rattle.std.proofs.Math.Nat.{mod-add-div'}

@@ -1,5 +1,5 @@
 -- Demand 3 of the contracts of the whole call: what is told and what the lent cells hold, for a job past every refusal
--- checked before 13.
+-- checked before 13. That they do stands in proofs/.
 use Rattle.std.specs.Prelude.{ℕ, ◌≡◌, refl, ◌↔◌, List, length}
 use Rattle.std.proofs.Common.{ap, ◌∙◌, subst, arith}
 use Rattle.definitions.specs.declared.Standardized.{Standardized}

@@ -1,4 +1,4 @@
--- Demand 3 of the promises of the whole call, on lists and on bytes.
+-- The promises of the whole call, on lists and on bytes, as calls that demand 3 speaks of; it stands in proofs/.
 use Rattle.std.specs.Prelude.{ℕ, ◌≡◌, refl, Bool, true, false, List, [], ◌∷◌, map, ◌⊎◌, T, eqb}
 use Rattle.std.proofs.Common.{sym, ap, ◌∙◌, subst, inl, inr, ⊎_elim}
 use Rattle.std.proofs.Math.Option.{Option, none, some}

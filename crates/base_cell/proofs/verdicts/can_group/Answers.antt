@@ -38,7 +38,7 @@ counted c = sym c.bad_counts.ensures ∙ c.if-bad_counts.false
 within : (c : Else-bad_mapping) → mapped (start c) ≡ false
 within c = sym c.bad_mapping.ensures ∙ c.if-bad_mapping.false
 
--- ---- the returns-then-bad_counts
+-- ---- the returns
 
 pub returns-then-bad_counts : goal.returns-then-bad_counts
 returns-then-bad_counts c = rw (sym c.bad_counts.ensures ∙ c.if-bad_counts.true)

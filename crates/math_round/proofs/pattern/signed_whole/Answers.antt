@@ -45,7 +45,7 @@ module _ (n s : ℕ) (h : n ≤ 2 ^ 53) (l : s < 2) where
       subst (λ b. T (not b)) (sym (nan_bits_is binary64 (to_bits binary64 (of_int binary64 (to_z w64 n)) + s * 2 ^ 63) ∙ ap is_nan read))
       (whole_number (round binary64 (eqb s 1) n 1) (eqb s 1) n (round_whole binary64 (eqb s 1) n h))
 
--- ---- the needs
+-- ---- the goals
 
 pub int_to_float-size : goal.int_to_float-size
 int_to_float-size c = in_float_lem c.args.n c.args.sign c.requires.0 c.requires.1
