@@ -1,7 +1,7 @@
 -- What a call answers, as an outcome.
-use Rattle.std.specs.Prelude.{ℕ, ◌-◌, ◌≡◌, List, length, take, replicate}
+use Rattle.std.specs.Prelude.{◌-◌, ◌≡◌, List, length, take, replicate}
 use Rattle.std.proofs.Math.Seq.{take-append_seam}
-use Rattle.definitions.specs.Refusal.{Condition, Outcome, accepted, refused, Returns, outcome_of, Checked, Filled}
+use Rattle.definitions.specs.Refusal.{Condition, Returns, outcome_of, Checked, Filled}
 use Rattle.definitions.specs.declared.Verdict.{Verdict}
 use Rattle.definitions.specs.declared.Verdict.TheVariants.{Accepted, Refused}
 

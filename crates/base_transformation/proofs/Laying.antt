@@ -1,5 +1,5 @@
 -- A run written front to back, and runs laid one behind the other in a list, each in its part.
-use Rattle.std.proofs.Common.{◌≡◌, ℕ, zero, suc, ◌+◌, ◌-◌, ◌*◌, ◌<◌, ◌≤◌, List, [], ◌∷◌, ◌++◌, length, get_or, take, drop, set, sym, refl, ap, ◌∙◌, append_assoc, append-nil, le_of_suc-le-suc, not-suc-le-zero, zero-mul, add-one, arith, length-append, length-drop, length-set, drop_of_length-le, length-take-le, take_all, drop-drop, take_at, drop_at}
+use Rattle.std.proofs.Common.{◌≡◌, ℕ, zero, suc, ◌+◌, ◌-◌, ◌*◌, ◌<◌, ◌≤◌, List, [], ◌∷◌, ◌++◌, length, get_or, take, drop, set, sym, refl, ap, ◌∙◌, append_assoc, append-nil, le_of_suc-le-suc, not-suc-le-zero, zero-mul, add-one, arith, length-drop, length-set, drop_of_length-le, length-take-le, take_all, drop-drop, take_at, drop_at}
 use borrow.Rule.Slice.PartMut.{same_len_mid}
 use Rattle.definitions.specs.Lists.{each}
 use Rattle.definitions.specs.Refusal.{padded}

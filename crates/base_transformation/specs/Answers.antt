@@ -1,10 +1,9 @@
 -- What the calls leave in what they are lent, and what stands between their parts.
-use Rattle.std.specs.Prelude.{◌≡◌, ℕ, ◌*◌, ◌<◌, ◌≤◌, Bool, true, false, List, [], length, ℤ, pos, unsigned_abs}
+use Rattle.std.specs.Prelude.{ℕ, ◌*◌, ◌<◌, ◌≤◌, Bool, true, false, List, [], ℤ, unsigned_abs}
 use Rattle.definitions.specs.declared.Verdict.{Verdict}
 use Rattle.definitions.specs.declared.Verdict.TheVariants.{Accepted, Refused}
-use Rattle.definitions.specs.Refusal.{padded, lent_value}
-use Rattle.definitions.specs.Matrix.{Matrix, at, mat, three}
-use Rattle.definitions.specs.Snf.{Run, Leaves, points}
+use Rattle.definitions.specs.Matrix.{Matrix, at}
+use Rattle.definitions.specs.Snf.{Leaves, points}
 use Rattle.definitions.specs.Calls.{IsSnf}
 
 -- the points of D and L

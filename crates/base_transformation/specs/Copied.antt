@@ -1,6 +1,6 @@
 -- What an accepted call of `list_sites` gives its caller, in the lent cells: the run of each primitive site has its
 -- copies, and exactly one of them for every whole translation.
-use Rattle.std.specs.Prelude.{◌≡◌, ℕ, ◌+◌, ◌-◌, ◌*◌, ◌<◌, ◌≤◌, Bool, false, ltb, List, [], ◌∷◌, map, length, get_or, replicate, ℤ, pos, ◌==◌, nat_lt, slice_index, slice_index_or, Float}
+use Rattle.std.specs.Prelude.{◌≡◌, ℕ, ◌+◌, ◌-◌, ◌*◌, ◌<◌, ◌≤◌, false, ltb, List, [], ◌∷◌, map, length, get_or, replicate, ℤ, pos, ◌==◌, nat_lt, slice_index, slice_index_or, Float}
 use Rattle.std.proofs.Common.{sym, subst, ◌∙◌, arith}
 use Rattle.std.proofs.Math.Path.{ap}
 use Rattle.std.proofs.lemmas.List.{length-map}

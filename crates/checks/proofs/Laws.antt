@@ -1,18 +1,13 @@
 -- Tests on lists: of three elements, and of what is left of a list; and what the comparisons of the code say.
-use Prim.Native.Nat.{ℕ, zero, suc, ◌+◌, ◌*◌, ◌≤◌, ◌<◌}
-use mathlib.Core.Path.{◌≡◌, refl, sym, ap, ◌∙◌}
+use Prim.Native.Nat.{ℕ, zero, suc, ◌+◌, ◌*◌, ◌≤◌}
+use mathlib.Core.Path.{◌≡◌, refl, sym, ◌∙◌}
 use mathlib.Core.Bool.{Bool, true, false, not, ◌&&◌, ◌||◌}
-use mathlib.Core.List.{List, [], ◌∷◌}
 use native.Mathlib.Omega.{arith}
-use native.Mathlib.Numerals.{add-one}
 use lib.Dec.{leb, ltb, eqb, leb-suc-suc}
-use lib.ListN.{length, get_or, drop, drop_of_length-le}
-use lib.Seq.{drop-cons}
 use lib.IntN.{ℤ, pos, negsuc, nat_abs}
 use lib.Signed.{le_z}
 use lib.Ieee.{Float, nan, inf, fin, up, down, neg, lt, eq, le}
 use borrow.Author.Tests.{ltb-false, eq-eqb, lt-ltb, le-ltb, le-leb, leb-true, leb-false, eqb-true, ne_eqb, eqb-false}
-use Rattle.definitions.specs.Lists.{all}
 use Rattle.definitions.specs.Real.{is_finite}
 use Rattle.definitions.specs.Limits.{magnitude}
 use Rattle.laws.specs.Tests.{and-true}

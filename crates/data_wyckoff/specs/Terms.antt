@@ -10,7 +10,7 @@ use Rattle.std.proofs.Math.Seq.{drop-append-add}
 use Rattle.std.proofs.lemmas.Bool.{eqb-false}
 use Rattle.definitions.specs.Lists.{all, those}
 use Rattle.definitions.specs.Matrix.{Matrix}
-use Rattle.definitions.specs.Coordinates.{Axis, Item, Term, Triplet, coefficient, term_row, rows, constant, origin_of, in_range, spaceless, Reads, Readable}
+use Rattle.definitions.specs.Coordinates.{Axis, Item, Term, Triplet, coefficient, term_row, rows, origin_of, in_range, spaceless, Reads, Readable}
 use Rattle.definitions.specs.Lent.{cells_of}
 use Rattle.laws.specs.Lists.{three-cons}
 use Rattle.data_wyckoff_laws.specs.Reader.{Token, Lead, State, token, close, at_end, on_token, on, step, triplet, finish, parse}

@@ -12,7 +12,7 @@ use Rattle.definitions.specs.declared.Image.TheVariants as image
 use Rattle.definitions.specs.declared.Stages.{Stages}
 use Rattle.definitions.specs.declared.Passes.{Passes}
 use Rattle.definitions.specs.declared.Passes.TheVariants.{Counted, Left, Outside}
-use Rattle.definitions.specs.Lists.{all, any, each, up_to}
+use Rattle.definitions.specs.Lists.{all, each, up_to}
 use Rattle.definitions.specs.Refusal.{Condition, ◌when◌, counts, matrix_entry, float_range, site_image}
 use Rattle.definitions.specs.Refusal.{determinant, diagonalisation, buffer, target_rotation, lattice}
 use Rattle.definitions.specs.Refusal.{Outcome, accepted, refused, Returns, Checked, lent_value, Filled, Promised}

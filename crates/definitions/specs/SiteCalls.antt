@@ -6,7 +6,7 @@ use Rattle.definitions.specs.declared.Verdict.{Verdict}
 use Rattle.definitions.specs.declared.Verdict.TheVariants.{Accepted, Refused}
 use Rattle.definitions.specs.declared.Matching.{Matching}
 use Rattle.definitions.specs.declared.Matching.TheVariants as matching
-use Rattle.definitions.specs.Lists.{all, any, each, up_to, Some}
+use Rattle.definitions.specs.Lists.{all, any, up_to, Some}
 use Rattle.definitions.specs.Refusal.{Condition, ◌when◌, counts, matrix_entry, float_range, site_image}
 use Rattle.definitions.specs.Refusal.{coordinates}
 use Rattle.definitions.specs.Refusal.{determinant, diagonalisation, listed_sites, buffer, orbit_fit}

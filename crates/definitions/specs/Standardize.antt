@@ -11,7 +11,7 @@ use Rattle.definitions.specs.Limits.{too_many_sites, not_some, too_many_candidat
 use Rattle.definitions.specs.Limits.{lattice_within, position_within, good_symprec}
 use Rattle.definitions.specs.Limits.{not_unimodular, copies, bad_copies, too_many_listed, shorter_than}
 use Rattle.definitions.specs.Real.{RealMatrix}
-use Rattle.definitions.specs.Job.{Parts, Job, Site, Operation, Candidate, IsJob, NoJob, job_of}
+use Rattle.definitions.specs.Job.{Parts, Job, Site, Operation, IsJob, NoJob, job_of}
 use Rattle.definitions.specs.Lent.{bad_images, unlike}
 use Rattle.definitions.specs.Transformation.{target_absent, aligned}
 use Rattle.definitions.specs.Symmetrization.{primitive_positions, lattice_fails, old_basis, primitive_cell_basis}

@@ -1,26 +1,23 @@
 -- Vectors, computed through the definitions. The patterns of the floats are those of Rust and of Python.
-use Rattle.std.specs.Prelude.{ℕ, ◌≡◌, refl, Bool, true, false, List, [], ◌∷◌, map, ℤ, pos, negsuc, replicate}
+use Rattle.std.specs.Prelude.{ℕ, ◌≡◌, refl, true, false, List, [], ◌∷◌, map, ℤ, pos, negsuc, replicate}
 use Rattle.std.proofs.Math.Option.{some}
 use Rattle.std.proofs.Common.{inl}
 use Rattle.std.specs.Float.{binary64}
-use Rattle.std.specs.Float.Ieee.{of_bits, to_bits, round, size, odd, of_fields, units, span, climb, add, sub, sum, neg, mul, div, rem, of_int}
-use Rattle.std.specs.Int.Count.{count_trailing_zeros}
-use Rattle.definitions.specs.declared.Centering.TheVariants.{C}
+use Rattle.std.specs.Float.Ieee.{of_bits, round, add, sub, sum, neg, div, rem, of_int}
 use Rattle.definitions.specs.declared.Verdict.TheVariants.{Refused}
 use Rattle.definitions.specs.Lists.{all, count, each, first, those, up_from}
 use Rattle.definitions.specs.Refusal.{precedence, upto, coordinates, determinant, ◌when◌, Applies, NoneOf}
 use Rattle.definitions.specs.Refusal.{Returns, Checked, padded}
 use Rattle.definitions.specs.Limits.{most_sites, most_listed}
-use Rattle.definitions.specs.Matrix.{Matrix, mul_m, det, inverse, identity}
+use Rattle.definitions.specs.Matrix.{Matrix, mul_m, inverse, identity}
 use Rattle.definitions.specs.Real.{zero_f, origin, round_away}
 use Rattle.definitions.specs.Permutation.{is_permutation, inverse_image, after}
 use Rattle.definitions.specs.Shuffle.{step, swap_down, shuffled}
 use Rattle.definitions.specs.Symmetrization.{off_round}
-use Rattle.definitions.specs.Centering.{linear}
-use Rattle.definitions.specs.Snf.{State, Place, start, pivot, places, lesser, least, pass, moved, signed}
+use Rattle.definitions.specs.Snf.{State, start, pivot, places, lesser, least, pass, moved, signed}
 use Rattle.definitions.specs.Snf.{clear_row, clear_column}
 use Rattle.definitions.specs.Snf.{cleared, begun, begun_in, box, points}
-use Rattle.definitions.specs.Cell.{reduced, listed_positions, listed_points, site_mapping, listed_elements}
+use Rattle.definitions.specs.Cell.{reduced, listed_points, site_mapping, listed_elements}
 use Rattle.definitions.specs.Orbit.{multiplicities, orbit, orbits}
 use Rattle.definitions.specs.Coordinates.{Signed, Term, Triplet, x, axis, times, whole, fraction, plus, minus}
 use Rattle.definitions.specs.Coordinates.{print_term, term_row, constant, print, rows, origin_of}

@@ -6,9 +6,8 @@ use Rattle.definitions.specs.declared.Standardized.TheVariants as standardized
 use Rattle.definitions.specs.declared.JobCounts.{JobCounts}
 use Rattle.definitions.specs.declared.JobRead.{JobRead}
 use Rattle.definitions.specs.declared.JobRead.TheVariants as job
-use Rattle.definitions.specs.Lists.{all, any, each}
+use Rattle.definitions.specs.Lists.{any}
 use Rattle.definitions.specs.Refusal.{Condition, ◌when◌, job_bytes, counts, buffer}
-use Rattle.definitions.specs.Refusal.{lattice}
 use Rattle.definitions.specs.Refusal.{Outcome, accepted, refused, Returns, Answered, Holds}
 use Rattle.definitions.specs.Matrix.{Matrix}
 use Rattle.definitions.specs.Limits.{text_bytes, most_sites, most_listed, shorter_than}
@@ -16,9 +15,6 @@ use Rattle.definitions.specs.Real.{RealMatrix, zero_f, origin}
 use Rattle.definitions.specs.Job.{Parts, IsJob, NoJob, Job, float, position_of, rows_of, centring_of, job_of}
 use Rattle.definitions.specs.Lent.{cells_of, zero_cells, zero_point, zero_matrix, zero_basis, operations_from}
 use Rattle.definitions.specs.Lent.{sites_from, candidates_from, unlike}
-use Rattle.definitions.specs.Snf.{points}
-use Rattle.definitions.specs.Orbit.{multiplicities}
-use Rattle.definitions.specs.Wyckoff.{letters}
 use Rattle.definitions.specs.Standardize.{Rooms, Answer, IsAnswer, job_conditions}
 use Rattle.definitions.specs.Standardize.{bytes_conditions, OfParts, BytesReturn}
 use Rattle.definitions.specs.Report.{report}

@@ -19,14 +19,14 @@ use Rattle.definitions.specs.Snf.{Run, all_assigned, Leaves, points}
 use Rattle.math_snf_laws.specs.Unique.{run_unique, stays}
 use Rattle.math_snf_laws.specs.Evaluate.{run}
 use Rattle.definitions.specs.Coordinates.{Triplet, Reads, Readable, spaceless, in_range, rows, origin_of}
-use Rattle.definitions.specs.Job.{Parts, Job, Candidate, IsJob, NoJob, job_of}
+use Rattle.definitions.specs.Job.{Parts, Job, IsJob, NoJob, job_of}
 use Rattle.definitions.specs.Permutation.{is_permutation}
 use Rattle.definitions.specs.Transformation.{aligned, target_absent}
 use Rattle.definitions.specs.Symmetrization.{primitive_positions, lattice_fails, old_basis}
 use Rattle.definitions.specs.Cell.{site_mapping, listed_positions}
 use Rattle.definitions.specs.Orbit.{Labels}
 use Rattle.definitions.specs.Wyckoff.{Space, IsSpace, match_of, texts_of, AreSpaces, Lettering, Found, sites_of, orbit_without_fit}
-use Rattle.definitions.specs.Standardize.{site_count, listed_count, bad_counts, bad_entry, bad_float, bad_image, bad_determinant, TextLeaves, Rooms, too_short, lettering_of, Work, NoFit, Rule, rules, bytes_rules, job_conditions, OfParts, bytes_conditions, Answer, answer_of, BytesReturn}
+use Rattle.definitions.specs.Standardize.{site_count, listed_count, bad_counts, bad_entry, bad_float, bad_image, bad_determinant, TextLeaves, Rooms, too_short, lettering_of, Work, NoFit, Rule, bytes_rules, job_conditions, OfParts, bytes_conditions, Answer, answer_of, BytesReturn}
 use Rattle.definitions.specs.Limits.{small, copies, most_bytes, too_many_listed}
 use Rattle.data_wyckoff_laws.specs.Reader.{parse}
 use Rattle.data_wyckoff_laws.specs.Reading.{read_unique, parse_reads, parse_none}

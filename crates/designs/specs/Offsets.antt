@@ -1,7 +1,7 @@
 -- The 125 offsets, computed: "The 27 offsets in -1..1 come first, then the 98 others in -2..2, last coordinate fastest,
 -- at places 0 to 124."
 use Rattle.std.specs.Prelude.{ℕ, ◌≡◌, refl, Bool, ◌&&◌, List, [], ◌∷◌, length, get_or, take, T, leb, eqb, ℤ, pos, negsuc, nat_abs}
-use Rattle.definitions.specs.Lists.{all, any, count, each, those}
+use Rattle.definitions.specs.Lists.{all, count, each, those}
 use Rattle.definitions.specs.Matrix.{item}
 use Rattle.definitions.specs.Transformation.{same_z}
 use Rattle.definitions.specs.Wyckoff.{offsets}

@@ -16,7 +16,7 @@ use Rattle.math_snf_laws.specs.Evaluate.{run}
 use Rattle.definitions.specs.Centering.{linear}
 use Rattle.definitions.specs.Cell.{listed_positions, site_mapping}
 use Rattle.definitions.specs.Orbit.{Labels, orbits}
-use Rattle.definitions.specs.Coordinates.{Triplet, x, axis, times, whole, fraction, plus, minus, Reads, rows, origin_of, in_range}
+use Rattle.definitions.specs.Coordinates.{Triplet, x, axis, times, fraction, plus, minus, Reads, rows, origin_of, in_range}
 use Rattle.definitions.specs.Job.{float}
 use Rattle.definitions.specs.Calls.{inverse_conditions, points_conditions}
 use Rattle.definitions.specs.SiteCalls.{text_conditions}

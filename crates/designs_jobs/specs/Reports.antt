@@ -1,8 +1,8 @@
 -- The report's text, computed for the worked example of document 01 and for two others.
-use Rattle.std.specs.Prelude.{◌≡◌, refl, List, [], ◌∷◌, ℕ}
+use Rattle.std.specs.Prelude.{◌≡◌, refl, [], ◌∷◌}
 use Rattle.definitions.specs.Refusal.{refused}
 use Rattle.definitions.specs.Report.{report}
-use Rattle.definitions.specs.Lists.{each, up_from}
+use Rattle.definitions.specs.Lists.{up_from}
 use Rattle.designs.specs.Evaluate.{outcome_at}
 use Rattle.designs_jobs.specs.Jobs.{jobs}
 

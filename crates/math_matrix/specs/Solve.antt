@@ -1,6 +1,6 @@
 -- Polynomial identities over ℤ, decided by computing: two expressions whose difference has no monomial left have the
 -- same value everywhere.
-use Prim.Native.Nat.{ℕ, zero, suc, ◌+◌, compare, Ordering}
+use Prim.Native.Nat.{ℕ, zero, suc, compare, Ordering}
 use Rattle.std.specs.Prelude.{◌≡◌, Bool, T, leb, ℤ, negsuc, ◌+ℤ◌, ◌*ℤ◌}
 use Rattle.std.proofs.Math.Path.{refl, sym, ap}
 use Rattle.std.proofs.Common.{◌∙◌, subst, eqb→eq}

@@ -3,7 +3,7 @@
 use Prim.Native.Nat.{ℕ, zero, suc, ◌+◌, ◌-◌, ◌*◌, ◌/◌, ◌%◌, ◌^◌, ◌≤◌, ◌<◌}
 use mathlib.Core.Path.{◌≡◌, refl, sym, ap, ◌∙◌, subst}
 use mathlib.Core.Bool.{Bool, true, false, cond}
-use native.Mathlib.Nat.{mul-one, one-mul, add-mul, div-le_self, mul_assoc, mul_comm, mul_right_comm, mul-le-mul_right, mul-pos, div-add-mod', le_trans, lt_of_lt_of_le, lt_of_le_of_lt, mul-lt-mul_of_pos_right}
+use native.Mathlib.Nat.{mul-one, one-mul, add-mul, div-le_self, mul_assoc, mul_comm, mul_right_comm, mul-pos, div-add-mod', lt_of_lt_of_le, lt_of_le_of_lt, mul-lt-mul_of_pos_right}
 use native.Mathlib.Omega.{arith}
 use lib.Dec.{T, ltb, lit<, lit≤}
 use lib.Pow.{pow-add, pow_pos}

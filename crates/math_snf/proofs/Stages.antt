@@ -18,7 +18,7 @@ use Rattle.math_snf_laws.specs.Pivot.{chosen}
 use Rattle.math_snf_laws.specs.Reduced.{falls}
 use Rattle.math_snf_laws.specs.Stages.{most, stage-passes, stage_found}
 use Rattle.math_snf_laws.specs.Begun.{small_append, small_one, small_cons, begun-append, begun_one, begun_left}
-use Rattle.math_snf.specs.Step.{grade, Graded, pass_at, passes_at, most_passes, Ended, Ran, EndedIn, RanIn}
+use Rattle.math_snf.specs.Step.{grade, Graded, pass_at, passes_at, most_passes, EndedIn, RanIn}
 
 -- ---- every stage ends
 

@@ -1,5 +1,5 @@
 -- The passes that are begun are few.
-use Rattle.std.specs.Prelude.{ℕ, ◌+◌, ◌≤◌, Bool, true, false, cond, ◌++◌}
+use Rattle.std.specs.Prelude.{ℕ, ◌≤◌, Bool, true, false, cond, ◌++◌}
 use Rattle.std.proofs.Common.{arith, le_trans}
 use Rattle.definitions.specs.Matrix.{Matrix}
 use Rattle.definitions.specs.Snf.{Run, all_small, begun_of}

@@ -2,7 +2,7 @@
 use Rattle.std.specs.Prelude.{◌≡◌, Bool, true, false}
 use Rattle.std.proofs.Math.Path.{refl}
 use Rattle.std.proofs.Common.{ap, subst}
-use Rattle.std.proofs.Math.Option.{none, some}
+use Rattle.std.proofs.Math.Option.{some}
 use Rattle.definitions.specs.declared.Stages.{Stages}
 use Rattle.definitions.specs.declared.Passes.{Passes}
 use Rattle.definitions.specs.Lists.{all}
@@ -10,10 +10,8 @@ use Rattle.definitions.specs.Limits.{small, in_range}
 use Rattle.definitions.specs.Matrix.{Matrix}
 use Rattle.definitions.specs.Snf.{Run, all_assigned, begun_of, passes_of}
 use Rattle.definitions.specs.Calls.{passes_told, PassesPromise}
-use Rattle.laws.specs.Verdicts.{holds}
 use Rattle.math_snf_laws.specs.Begun.{AtMost, all-begun}
 use Rattle.math_snf_laws.proofs.Begun.{begun_at_most}
-use Rattle.math_snf_laws.specs.Runs.{every}
 use Rattle.math_snf_laws.specs.Passes.{is_left, is_counted}
 
 module _ (m : Matrix) (p : Passes) (h : PassesPromise m p) where

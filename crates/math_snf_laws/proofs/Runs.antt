@@ -1,6 +1,6 @@
 -- A run's stages are short.
 use Rattle.std.specs.Prelude.{◌≤◌, length}
-use Rattle.definitions.specs.Matrix.{Matrix, at}
+use Rattle.definitions.specs.Matrix.{Matrix}
 use Rattle.definitions.specs.Snf.{pivot, Run}
 use Rattle.math_snf_laws.specs.Steps.{i00, i11, i22}
 use Rattle.math_snf_laws.specs.Stages.{most, stage-passes}

@@ -1,17 +1,16 @@
 -- The text in the buffer is the report of the job's bytes, whole.
-use Rattle.std.specs.Prelude.{ℕ, zero, suc, ◌-◌, ◌≤◌, ◌≡◌, refl, false, List, [], ◌∷◌, ◌++◌, T, length, get_or, take, replicate}
+use Rattle.std.specs.Prelude.{ℕ, zero, suc, ◌-◌, ◌≤◌, ◌≡◌, refl, List, [], ◌∷◌, ◌++◌, length, get_or, take, replicate}
 use Rattle.std.proofs.Common.{sym, ap, ◌∙◌, inl, arith, ltb-false}
 use Rattle.std.proofs.Math.Path.{subst}
 use Rattle.definitions.specs.declared.Standardized.{Standardized}
 use Rattle.definitions.specs.Lists.{any}
-use Rattle.definitions.specs.Refusal.{padded, Holds, Applies, precedence, listed_sites, PastAll, Outcome, accepted, refused}
+use Rattle.definitions.specs.Refusal.{Holds, Applies, precedence, listed_sites, PastAll, Outcome, accepted, refused}
 use Rattle.definitions.specs.Refusal.{Returns}
 use Rattle.definitions.specs.Limits.{too_many_listed, most_listed}
-use Rattle.definitions.specs.Job.{Parts, IsJob, job_of}
-use Rattle.definitions.specs.Standardize.{Rooms, Answer, IsAnswer, listed_count, bytes_conditions, OfParts}
-use Rattle.definitions.specs.Report.{report}
+use Rattle.definitions.specs.Job.{job_of}
+use Rattle.definitions.specs.Standardize.{Answer, IsAnswer, listed_count, bytes_conditions, OfParts}
 use Rattle.definitions.specs.WholeCalls.{AnswerCells, rooms_of, HoldsAnswer, told_whole, BytesPromise, ample, Shown, SameEntries}
-use Rattle.definitions.specs.WholeCalls.{Tells, Written, ReportWritten, ReportPromise}
+use Rattle.definitions.specs.WholeCalls.{Tells, ReportWritten, ReportPromise}
 use Rattle.laws.specs.Order.{none_of}
 use Rattle.laws.specs.Tests.{off}
 use Rattle.report_text.specs.Text.{report_bytes}

@@ -8,8 +8,7 @@ use native.Mathlib.Numerals.{add-one}
 use lib.ListN.{length, get_or, drop, drop_of_length-le}
 use lib.Seq.{drop-cons}
 use lib.Ieee.{lt, eq}
-use lib.Dec.{T, ltb, eqb}
-use borrow.Author.Tests.{ltb-false}
+use lib.Dec.{T}
 use Rattle.laws.specs.Tests.{without}
 use Rattle.definitions.specs.declared.Verdict.{Verdict}
 use Rattle.definitions.specs.declared.Verdict.TheVariants.{Accepted, Refused}

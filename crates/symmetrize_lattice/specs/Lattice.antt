@@ -4,8 +4,7 @@ use Rattle.std.specs.Float.Ieee.{eq}
 use Rattle.definitions.specs.Refusal.{lent_value}
 use Rattle.definitions.specs.declared.Verdict.{Verdict}
 use Rattle.definitions.specs.Matrix.{Matrix, mat}
-use Rattle.definitions.specs.Real.{RealMatrix, zero_f, real, mul_f, transpose_f, sum_m, inverse_of_c, inverse_f, det_f}
-use Rattle.definitions.specs.Symmetrization.{conventional_basis, symmetrized_basis}
+use Rattle.definitions.specs.Real.{RealMatrix, zero_f, real, mul_f, transpose_f, sum_m, inverse_f, det_f}
 use Rattle.math_real.specs.Rows.{all_finite}
 
 abbrev pub zeros : RealMatrix

@@ -1,9 +1,9 @@
 -- Offsets in columns: from M·y of each to the match.
 use Prim.Native.Nat.{ℕ, ◌<◌}
 use mathlib.Core.Path.{◌≡◌, refl, sym, ap, ◌∙◌, subst}
-use mathlib.Core.Bool.{Bool, true, false, cond, ◌&&◌}
+use mathlib.Core.Bool.{Bool, true, false, ◌&&◌}
 use mathlib.Core.List.{List, []}
-use lib.ListN.{length, get_or, replicate, length-replicate, get_or-replicate}
+use lib.ListN.{get_or, replicate, length-replicate, get_or-replicate}
 use lib.Ieee.{Float, nan, eq}
 use Rattle.definitions.specs.declared.Position.{Position}
 use Rattle.definitions.specs.Real.{RealMatrix, zero_f, origin, apply_f, add_p, sub_p}

@@ -1,10 +1,9 @@
 -- The match of a candidate whose space is worked out already, as the code has it: M, L, R and D's diagonal as floats.
 -- It is the definitions' match: `match_is`.
-use Rattle.std.specs.Prelude.{ℕ, zero, suc, ◌+◌, ◌*◌, ◌^◌, ◌≤◌, ◌<◌, ◌≡◌, Bool, true, false, ◌&&◌, ◌||◌, T, eqb, length, get_or, ℤ, pos, negsuc, nat_abs, Float}
+use Rattle.std.specs.Prelude.{ℕ, zero, suc, ◌*◌, ◌^◌, ◌≤◌, ◌<◌, ◌≡◌, Bool, true, false, ◌&&◌, length, get_or, ℤ, pos, negsuc, nat_abs, Float}
 use Rattle.std.proofs.Math.Path.{refl, ap}
-use Rattle.std.proofs.Common.{sym, ap₂, ◌∙◌, subst, mul-pos, zero-lt-suc, arith, ne_eqb, le→leb, lit≤}
+use Rattle.std.proofs.Common.{sym, ◌∙◌, subst, mul-pos, zero-lt-suc, arith, ne_eqb}
 use Rattle.std.proofs.Math.Bool.{cond}
-use Rattle.std.specs.Bool.{beq}
 use mathlib.Core.List.{List, [], ◌∷◌, map}
 use Rattle.std.specs.Float.{nan, inf, fin, binary64}
 use Rattle.std.specs.Float.Ieee.{up, down, round, div, eq, lt, le, of_int, of_bits}

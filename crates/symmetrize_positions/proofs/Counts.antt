@@ -1,9 +1,8 @@
 -- What the tests of the counts say.
-use Prim.Native.Nat.{ℕ, ◌*◌, ◌≤◌}
+use Prim.Native.Nat.{ℕ, ◌*◌}
 use mathlib.Core.Path.{◌≡◌}
 use mathlib.Core.Bool.{Bool, false, not, ◌||◌}
-use native.Mathlib.Nat.{mul-le-mul}
-use lib.Dec.{eqb, ltb}
+use lib.Dec.{eqb}
 use borrow.Author.Tests.{ltb-false, eqb-true, not-false}
 use Rattle.definitions.specs.Limits.{not_some, too_many_sites}
 use Rattle.symmetrize_positions.specs.Targets.{Counted}

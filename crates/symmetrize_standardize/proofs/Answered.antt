@@ -8,7 +8,6 @@ use lib.ListN.{length, get_or, length-map}
 use lib.Dec.{T, ltb}
 use borrow.Author.Tests.{le-ltb, lt-ltb, eq-eqb}
 use Rattle.definitions.specs.declared.Verdict.TheVariants.{Accepted, Refused}
-use Rattle.definitions.specs.declared.Standardized.TheVariants as standardized
 use Rattle.definitions.specs.Lists.{all, any, Each}
 use Rattle.definitions.specs.Refusal.{Checked, Holds, orbit_fit}
 use Rattle.definitions.specs.Limits.{copies, too_many_listed, too_many_candidates, shorter_than}

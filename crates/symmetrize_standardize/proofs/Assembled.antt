@@ -9,7 +9,7 @@ use lib.IntN.{ℤ, pos}
 use lib.Ieee.{Float}
 use borrow.Author.Tests.{not-true, not-false}
 use Rattle.definitions.specs.declared.Verdict.{Verdict}
-use Rattle.definitions.specs.declared.Verdict.TheVariants.{Accepted, Refused}
+use Rattle.definitions.specs.declared.Verdict.TheVariants.{Refused}
 use Rattle.definitions.specs.declared.Standardized.{Standardized}
 use Rattle.definitions.specs.declared.Standardized.TheVariants as standardized
 use Rattle.definitions.specs.Refusal.{Checked, Holds, padded, lent_value, accepted, refused, orbit_fit}

@@ -10,7 +10,7 @@ use Rattle.definitions.specs.Job.{Job}
 use Rattle.definitions.specs.Orbit.{multiplicities}
 use Rattle.definitions.specs.Wyckoff.{Lettering, Found, Unfit, letters}
 use Rattle.definitions.specs.Standardize.{site_count, lettering_of, JobReturns}
-use Rattle.definitions.specs.Demand.{listed, JoinTheSame, JoinTheSameBelow, Alike, AlikeJobs, WholeCall, lettering_call, PastBefore13}
+use Rattle.definitions.specs.Demand.{JoinTheSame, JoinTheSameBelow, Alike, AlikeJobs, WholeCall, lettering_call, PastBefore13}
 use Rattle.definitions.specs.Demand.{HasDesign, CountsEachSiteOnce, HasJustTheFive, HasJustTheLetters, ThirteenExactly, TwoJobs, DemandOfWhole}
 use Rattle.math_matrix.specs.Laws.{Three}
 use Rattle.math_snf_laws.specs.Runs.{every}

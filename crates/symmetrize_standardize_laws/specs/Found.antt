@@ -2,9 +2,9 @@
 -- the sites have
 -- labels.
 use Prim.Native.Nat.{ℕ, zero, suc, ◌<◌}
-use Rattle.std.specs.Prelude.{◌≡◌, Bool, not, ◌||◌, ◌⊎◌, length, replicate, ltb, eqb}
+use Rattle.std.specs.Prelude.{◌≡◌, Bool, ◌⊎◌, length, replicate, ltb, eqb}
 use Rattle.std.proofs.Math.Path.{refl}
-use Rattle.std.proofs.Common.{sym, subst, ap, ◌∙◌, inl, inr, ⊎_elim, lt→ltb}
+use Rattle.std.proofs.Common.{sym, subst, ◌∙◌, inl, inr, ⊎_elim, lt→ltb}
 use Rattle.std.proofs.Math.Bool.{true, false}
 use mathlib.Core.List.Memᴰ
 use mathlib.Core.List.{List, [], ◌∷◌, ◌++◌, reverse, reverse_aux, Memᴰ}
@@ -13,7 +13,6 @@ use native.Mathlib.Omega.{arith}
 use Rattle.std.proofs.lemmas.List.{length-map}
 use Rattle.std.proofs.Math.Dec.{T}
 use borrow.Author.Tests.{eqb-false}
-use Rattle.definitions.specs.declared.Position.{Position}
 use Rattle.definitions.specs.Lists.{all, any, first, each, up_to}
 use Rattle.definitions.specs.Refusal.{upto, precedence, Past, orbit_fit}
 use Rattle.definitions.specs.Limits.{copies, bad_copies, not_unimodular}
@@ -25,7 +24,7 @@ use Rattle.definitions.specs.Transformation.{operation_for, rotation_absent, tar
 use Rattle.definitions.specs.Symmetrization.{symmetrized_at, symmetrized, primitive_positions}
 use Rattle.definitions.specs.Cell.{site_mapping}
 use Rattle.definitions.specs.Wyckoff.{texts_of, Found}
-use Rattle.definitions.specs.Standardize.{site_count, BadCoordinates, bad_image, Rooms, job_conditions, lettering_of, Work}
+use Rattle.definitions.specs.Standardize.{site_count, BadCoordinates, Rooms, job_conditions, lettering_of, Work}
 use Rattle.laws.specs.Tests.{passed, off, neither_left, neither_right}
 use Rattle.laws.specs.Lists.{all_cons, all_head, all_tail, all_mem, from_up_to, in_up_to, length-up_from}
 use Rattle.laws.specs.Order.{FailBefore, past_before}

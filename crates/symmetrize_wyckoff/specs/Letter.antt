@@ -1,12 +1,12 @@
 -- The letter call, as its promise has it: demand 3.
-use Rattle.std.specs.Prelude.{ℕ, ◌≡◌, refl, false, ◌||◌, List, T}
+use Rattle.std.specs.Prelude.{ℕ, ◌≡◌, refl, false, ◌||◌, List}
 use Rattle.std.proofs.Common.{sym, ap, ◌∙◌}
 use Rattle.std.proofs.Math.Path.{subst}
 use Rattle.std.proofs.Math.Logic.{inl, ⊎_elim}
 use Rattle.definitions.specs.Lists.{any}
-use Rattle.definitions.specs.Refusal.{Applies, upto, precedence, Past, orbit_fit, Outcome, accepted, refused, Returns}
+use Rattle.definitions.specs.Refusal.{Applies, upto, precedence, Past, orbit_fit, Outcome, refused, Returns}
 use Rattle.definitions.specs.Lent.{bad_images}
-use Rattle.definitions.specs.Wyckoff.{texts_of, AreSpaces, Lettering, Found, Unfit, sites_of, letters}
+use Rattle.definitions.specs.Wyckoff.{texts_of, AreSpaces, Found, Unfit, letters}
 use Rattle.definitions.specs.Orbit.{multiplicities}
 use Rattle.definitions.specs.SiteCalls.{LetterArguments, design_from, candidates_in, permutations_in, bad_mapping, letter_conditions, LetterCells}
 use Rattle.definitions.specs.SiteCalls.{letter_rooms, IsLettered, HoldsLetters, nothing_lettered, LetterAnswered}

@@ -2,10 +2,10 @@
 use Rattle.std.specs.Prelude.{ℕ, ◌≡◌, ◌↔◌, T}
 use Rattle.std.proofs.Common.{sym, ap, ◌∙◌, subst}
 use Rattle.std.proofs.Math.Logic.Iff.{symm as iff_symm, trans as iff_trans}
-use Rattle.definitions.specs.Refusal.{Past, orbit_fit, Outcome, accepted}
+use Rattle.definitions.specs.Refusal.{Outcome, accepted}
 use Rattle.definitions.specs.Orbit.{multiplicities}
 use Rattle.definitions.specs.Wyckoff.{Lettering, Found, Unfit, sites_of, orbit_without_fit, letters}
-use Rattle.definitions.specs.Demand.{FittingCall, PastBefore13, HasDesign, ThirteenExactly, LetteringCall, HasJustTheLetters, Alike, JoinTheSame}
+use Rattle.definitions.specs.Demand.{PastBefore13, HasDesign, ThirteenExactly, LetteringCall, HasJustTheLetters, Alike, JoinTheSame}
 use Rattle.definitions.specs.Demand.{AlikeFree, OrderFree, DemandOfLettering}
 use Rattle.base_cell.specs.Maps.{Permutations}
 use Rattle.base_cell.proofs.Rearranged.{any_size}

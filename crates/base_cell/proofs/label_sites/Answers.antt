@@ -1,6 +1,5 @@
 -- `label_sites`: the verdict is `label_verdict`'s, and what is left is by it.
 use mathlib.Core.Path.{◌≡◌, sym, ap, subst, ◌∙◌}
-use mathlib.Core.Logic.{⊎_elim}
 use Rattle.definitions.specs.SiteCalls.{LabelArguments, LabelCells}
 use Rattle.base_cell.specs.Grouping.{LabelsLeft}
 use Rattle.base_cell.proofs.Accepted.{accepts, facts, kept}

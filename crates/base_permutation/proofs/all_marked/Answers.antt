@@ -1,5 +1,4 @@
 -- `base_permutation::all_marked` meets its contract: the cells read so far are all marked, or not.
-use Prim.Native.Nat.{◌-◌}
 use mathlib.Core.Path.{refl, ap, ◌∙◌}
 use native.Mathlib.Omega.{arith}
 use lib.Seq.{take_all}

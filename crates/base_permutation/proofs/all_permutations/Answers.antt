@@ -1,5 +1,4 @@
 -- `base_permutation::all_permutations` meets its contract: those before o pass, and the part of o starts at o * n.
-use Prim.Native.Nat.{◌-◌}
 use mathlib.Core.Path.{◌≡◌, refl, sym, ◌∙◌}
 use native.Mathlib.Omega.{arith}
 use Rattle.base_permutation.proofs.Parts.{is_nth, one_passes, one_fails, all_passed, part_is, cut_short, of_no_sites}

@@ -1,6 +1,6 @@
 -- `base_permutation::each_once` meets its contract: the table says which images were met, none of them twice or
 -- past the length.
-use Prim.Native.Nat.{◌-◌, ◌<◌}
+use Prim.Native.Nat.{◌<◌}
 use mathlib.Core.Path.{refl}
 use native.Mathlib.Omega.{arith}
 use native.Mathlib.Nat.{not-suc-le-zero}

@@ -1,5 +1,5 @@
 -- `base_permutation::put_identity` meets its contract: the first i cells are the answer's.
-use Prim.Native.Nat.{◌-◌, ◌<◌}
+use Prim.Native.Nat.{◌<◌}
 use mathlib.Core.Path.{refl, sym}
 use native.Mathlib.Omega.{arith}
 use lib.ListN.{length-set}

@@ -1,6 +1,6 @@
 -- `base_permutation::put_inverse` meets its contract: the cell of the image of each j below i holds j, and the cells
 -- past the answer are as they were.
-use Prim.Native.Nat.{◌-◌, ◌≤◌, ◌<◌}
+use Prim.Native.Nat.{◌≤◌, ◌<◌}
 use mathlib.Core.Path.{◌≡◌, refl, ◌∙◌}
 use native.Mathlib.Omega.{arith}
 use native.Mathlib.Nat.{not-suc-le-zero}

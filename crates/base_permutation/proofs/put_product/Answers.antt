@@ -1,5 +1,5 @@
 -- `base_permutation::put_product` meets its contract: the first i cells are the answer's.
-use Prim.Native.Nat.{◌-◌, ◌<◌}
+use Prim.Native.Nat.{◌<◌}
 use mathlib.Core.Path.{refl, sym, ap, ◌∙◌}
 use native.Mathlib.Omega.{arith}
 use lib.ListN.{length, length-set, length-map}

@@ -1,5 +1,5 @@
 -- The first k cells are the points' first k.
-use Rattle.std.proofs.Common.{◌-◌, ◌*◌, ◌<◌, [], map, refl, arith, length-set}
+use Rattle.std.proofs.Common.{◌*◌, ◌<◌, [], map, refl, arith, length-set}
 use Rattle.definitions.specs.Matrix.{apply}
 use Rattle.definitions.specs.Snf.{box}
 use Rattle.base_transformation.proofs.Points.{box-points, point_at, factors}

@@ -1,5 +1,4 @@
 -- `clear_i32`: before the place i the list is as it is to be, and from i on as it was.
-use Prim.Native.Nat.{◌-◌}
 use native.Mathlib.Omega.{arith}
 use lib.IntN.{pos}
 use Rattle.laws.specs.Filling.{cleared_none, cleared_more, cleared-all}

@@ -1,5 +1,4 @@
 -- `clear_texts`: before the place i the list is as it is to be, and from i on as it was.
-use Prim.Native.Nat.{◌-◌}
 use native.Mathlib.Omega.{arith}
 use Rattle.definitions.specs.WholeCalls.{zero_text}
 use Rattle.laws.specs.Filling.{cleared_none, cleared_more, cleared-all}

@@ -1,6 +1,5 @@
 use native.Mathlib.Omega.{arith}
-use lib.ListN.{length, length-set}
-use Rattle.laws.specs.Filling.{Cleared, cleared_none, cleared_more, cleared-all}
+use Rattle.laws.specs.Filling.{cleared_none, cleared_more, cleared-all}
 use Rattle.lent.proofs.clear_u8.Goals as goal
 
 pub loop-i-init : goal.loop-i-init

@@ -1,7 +1,7 @@
 use borrow.Author.Tests.{not-true, not-false}
 use mathlib.Core.Path.{subst, subst₂}
 use mathlib.Core.Bool.{Bool, true}
-use Rattle.definitions.specs.Matrix.{Matrix, identity}
+use Rattle.definitions.specs.Matrix.{Matrix}
 use Rattle.definitions.specs.Snf.{State, start}
 use Rattle.math_snf.specs.Step.{dlr, EndedIn}
 use Rattle.math_snf.proofs.Stages.{ran_first, ran_second, ran}

@@ -1,5 +1,5 @@
 -- `math_sqrt::root_digits` meets its contract: at each turn `First` holds of the digits so far.
-use Prim.Native.Nat.{◌-◌, ◌<◌}
+use Prim.Native.Nat.{◌<◌}
 use mathlib.Core.Path.{◌≡◌}
 use native.Mathlib.Omega.{arith}
 use Rattle.math_sqrt.specs.Root.{first_none, first_narrow, first_more, first_all}

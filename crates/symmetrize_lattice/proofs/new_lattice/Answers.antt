@@ -1,11 +1,9 @@
 -- The tests in the order of precedence, each on what those before it passed.
 use mathlib.Core.Path.{ap, ◌≡◌, refl, ◌∙◌}
-use mathlib.Core.Bool.{Bool, false, not}
-use mathlib.Core.List.{List}
+use mathlib.Core.Bool.{false, not}
 use lib.ListN.{length}
 use Rattle.definitions.specs.Symmetrization.{lattice_fails, symmetrized_basis}
 use Rattle.definitions.specs.Lists.{all}
-use Rattle.definitions.specs.Matrix.{Matrix}
 use Rattle.definitions.specs.Real.{RealMatrix}
 use Rattle.definitions.specs.Limits.{within}
 use Rattle.symmetrize_lattice.specs.Lattice.{zeros}

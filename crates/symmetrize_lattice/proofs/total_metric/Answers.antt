@@ -1,5 +1,5 @@
 -- The sum of all rotations is the sum so far with that of the rotations left.
-use Prim.Native.Nat.{◌<◌, ◌-◌}
+use Prim.Native.Nat.{◌<◌}
 use mathlib.Core.Path.{sym, ◌∙◌, refl}
 use mathlib.Core.List.{[]}
 use native.Mathlib.Omega.{arith}

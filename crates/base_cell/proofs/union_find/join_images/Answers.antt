@@ -1,5 +1,4 @@
 -- `join_images`: the sites before i and their images are joined.
-use Prim.Native.Nat.{◌-◌}
 use mathlib.Core.Path.{◌≡◌, subst}
 use native.Mathlib.Omega.{arith}
 use native.Mathlib.Nat.{not-suc-le-zero}

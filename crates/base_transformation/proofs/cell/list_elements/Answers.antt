@@ -1,5 +1,5 @@
 -- `list_elements`: the runs of the first i elements are laid.
-use Rattle.std.proofs.Common.{◌+◌, ◌-◌, ◌<◌, ◌≤◌, length, get_or, replicate, pos, refl, ◌∙◌, arith, w32}
+use Rattle.std.proofs.Common.{◌+◌, ◌<◌, ◌≤◌, length, get_or, replicate, pos, refl, ◌∙◌, arith, w32}
 use lib.ListN.{length-replicate}
 use Rattle.definitions.specs.Cell.{listed_elements}
 use Rattle.math_matrix.specs.Bounds.{back}

@@ -1,5 +1,5 @@
 -- `list_mapping`: the runs of the first i sites are laid.
-use Rattle.std.proofs.Common.{◌+◌, ◌-◌, ◌<◌, ◌≤◌, length, replicate, sym, ap, ◌∙◌, arith}
+use Rattle.std.proofs.Common.{◌+◌, ◌<◌, ◌≤◌, length, replicate, sym, ap, ◌∙◌, arith}
 use lib.ListN.{length-replicate}
 use Rattle.definitions.specs.Cell.{site_mapping}
 use Rattle.laws.specs.Lists.{length-up_from, up_to_at}

@@ -1,5 +1,5 @@
 -- `list_positions`: the runs of the first i sites are laid.
-use Rattle.std.proofs.Common.{◌≡◌, ◌+◌, ◌-◌, ◌≤◌, List, [], map, length, ℤ, refl, ap, ◌∙◌, arith}
+use Rattle.std.proofs.Common.{◌≡◌, ◌+◌, ◌≤◌, List, [], map, length, ℤ, refl, ap, ◌∙◌, arith}
 use lib.ListN.{length-map}
 use lib.Ieee.{Float}
 use Rattle.definitions.specs.Lent.{position_from, zero_cells}

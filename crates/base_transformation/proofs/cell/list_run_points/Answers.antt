@@ -1,5 +1,5 @@
 -- `list_run_points`: the runs of the first i sites are laid.
-use Rattle.std.proofs.Common.{◌+◌, ◌-◌, ◌≤◌, length, refl, arith}
+use Rattle.std.proofs.Common.{◌+◌, ◌≤◌, length, refl, arith}
 use Rattle.definitions.specs.Cell.{listed_points}
 use Rattle.definitions.specs.Lent.{zero_point}
 use Rattle.laws.specs.Lists.{length-up_from}

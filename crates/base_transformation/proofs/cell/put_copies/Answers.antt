@@ -1,5 +1,5 @@
 -- `put_copies`: the first k cells are the copies at the first k points.
-use Rattle.std.proofs.Common.{◌-◌, ◌<◌, [], length, sym, ◌∙◌, arith}
+use Rattle.std.proofs.Common.{◌<◌, [], length, sym, ◌∙◌, arith}
 use lib.ListN.{length-map}
 use Rattle.definitions.specs.Lent.{zero_cells}
 use Rattle.laws.specs.Lists.{map_at}

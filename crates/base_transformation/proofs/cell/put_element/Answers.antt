@@ -1,5 +1,5 @@
 -- `put_element`: the first k cells are the element.
-use Rattle.std.proofs.Common.{◌-◌, ◌<◌, length, replicate, pos, sym, ap, ◌∙◌, arith, w32, to_z, of_z}
+use Rattle.std.proofs.Common.{◌<◌, length, replicate, pos, sym, ap, ◌∙◌, arith, w32, to_z, of_z}
 use lib.ListN.{length-replicate, get_or-replicate}
 use mir.ValLaws.{to_z-of_z}
 use Rattle.base_transformation.proofs.Laying.{written_none, written-more, written_all}

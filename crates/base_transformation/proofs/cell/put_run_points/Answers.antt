@@ -1,5 +1,5 @@
 -- `put_run_points`: the first k cells are the first k points.
-use Rattle.std.proofs.Common.{◌-◌, [], sym, refl, arith}
+use Rattle.std.proofs.Common.{[], sym, refl, arith}
 use Rattle.base_transformation.proofs.Laying.{written_none, written-more, written_all}
 use Rattle.base_transformation.proofs.cell.put_run_points.Goals as goal
 

@@ -1,5 +1,5 @@
 -- `put_site`: the first k cells are the site's number.
-use Rattle.std.proofs.Common.{◌-◌, ◌<◌, length, sym, arith}
+use Rattle.std.proofs.Common.{◌<◌, length, sym, arith}
 use lib.ListN.{length-replicate, get_or-replicate}
 use Rattle.base_transformation.proofs.Laying.{written_none, written-more, written_all}
 use Rattle.base_transformation.proofs.cell.put_site.Goals as goal

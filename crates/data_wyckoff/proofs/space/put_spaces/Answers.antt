@@ -1,5 +1,4 @@
 -- `put_spaces`: the candidates before i stand in the lists, with the first refusal of them.
-use Prim.Native.Nat.{◌-◌}
 use native.Mathlib.Omega.{arith}
 use Rattle.data_wyckoff.specs.Spaces.{cells_in}
 use Rattle.data_wyckoff.proofs.Listed.{put_none, put-more, put_all}

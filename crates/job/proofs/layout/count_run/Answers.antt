@@ -1,5 +1,4 @@
 -- Every record before the place `end` is a whole command.
-use Prim.Native.Nat.{◌-◌}
 use native.Mathlib.Omega.{arith}
 use Rattle.job.proofs.CountedRun.{met_none, met_more, met_run}
 use Rattle.job.proofs.layout.count_run.Goals as goal

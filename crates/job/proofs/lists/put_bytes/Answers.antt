@@ -1,5 +1,5 @@
 -- The first i cells are those of the first i commands.
-use Prim.Native.Nat.{◌-◌, ◌≤◌, ◌<◌}
+use Prim.Native.Nat.{◌≤◌, ◌<◌}
 use native.Mathlib.Omega.{arith}
 use Rattle.job.specs.Places.{word_at}
 use Rattle.job.proofs.Putting.{putting_none, putting_room, putting_more, putting_all}

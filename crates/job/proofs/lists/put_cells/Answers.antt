@@ -1,5 +1,5 @@
 -- The first i cells are those of the first i commands.
-use Prim.Native.Nat.{◌-◌, ◌≤◌, ◌<◌}
+use Prim.Native.Nat.{◌≤◌, ◌<◌}
 use native.Mathlib.Omega.{arith}
 use Rattle.definitions.specs.Lent.{zero_cells}
 use Rattle.job.specs.Places.{cells_from}

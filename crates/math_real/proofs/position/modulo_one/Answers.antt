@@ -3,7 +3,6 @@ use mathlib.Core.Path.{sym, ap, ◌∙◌}
 use lib.Dec.{T}
 use lib.Ieee.{binary64, fits, of_bits, neg, sub}
 use borrow.Author.Rules.{rules}
-use Rattle.std.specs.Float.{trunc}
 use Rattle.definitions.specs.Cell.{reduced}
 use Rattle.math_real.proofs.Remainder.{below_one}
 use Rattle.math_real.proofs.Cut.{above, below}

@@ -1,5 +1,4 @@
 -- `put_transformed`: the first i are the transformed rotations.
-use Prim.Native.Nat.{◌-◌}
 use mathlib.Core.Path.{refl, sym, ◌∙◌}
 use mathlib.Core.List.{[], ◌++◌, map}
 use native.Mathlib.Omega.{arith}

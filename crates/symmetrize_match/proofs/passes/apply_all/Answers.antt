@@ -1,5 +1,4 @@
 -- `apply_all` meets its contract: each position is read before it is written.
-use Prim.Native.Nat.{◌-◌}
 use native.Mathlib.Omega.{arith}
 use mathlib.Core.Path.{◌≡◌, refl, ap, ◌∙◌}
 use native.Mathlib.Nat.{not-suc-le-zero}

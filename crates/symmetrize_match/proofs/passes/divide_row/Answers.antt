@@ -1,5 +1,4 @@
 -- `divide_row` meets its contract: a row that is divided, or that was zero.
-use Prim.Native.Nat.{◌-◌}
 use native.Mathlib.Omega.{arith}
 use mathlib.Core.Path.{ap, ◌∙◌}
 use native.Mathlib.Nat.{not-suc-le-zero}

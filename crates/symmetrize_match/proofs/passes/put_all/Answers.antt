@@ -1,5 +1,4 @@
 -- `put_all` meets its contract.
-use Prim.Native.Nat.{◌-◌}
 use native.Mathlib.Omega.{arith}
 use mathlib.Core.Path.{refl}
 use native.Mathlib.Nat.{not-suc-le-zero}

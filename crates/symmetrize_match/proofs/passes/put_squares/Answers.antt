@@ -1,5 +1,4 @@
 -- `put_squares` meets its contract: a first coordinate is read before its square stands there.
-use Prim.Native.Nat.{◌-◌}
 use native.Mathlib.Omega.{arith}
 use mathlib.Core.Path.{◌≡◌, refl, ap, ◌∙◌}
 use native.Mathlib.Nat.{not-suc-le-zero}

@@ -1,5 +1,4 @@
 -- `put_transformed`: the first i cells are those of the transformed positions.
-use Prim.Native.Nat.{◌-◌}
 use mathlib.Core.Path.{refl, sym, ap, ◌∙◌}
 use mathlib.Core.List.{[]}
 use native.Mathlib.Omega.{arith}

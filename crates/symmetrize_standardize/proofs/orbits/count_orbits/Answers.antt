@@ -1,5 +1,5 @@
 -- `count_orbits`: so many of the first j sites are their own label.
-use Prim.Native.Nat.{◌-◌, ◌≤◌}
+use Prim.Native.Nat.{◌≤◌}
 use native.Mathlib.Omega.{arith}
 use Rattle.symmetrize_standardize.proofs.Counted.{own_label, none_before, counted-more, counted_few, all-counted}
 use Rattle.symmetrize_standardize.proofs.orbits.count_orbits.Goals as goal

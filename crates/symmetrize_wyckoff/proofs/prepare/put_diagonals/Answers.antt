@@ -1,5 +1,5 @@
 -- `put_diagonals`: before the place k the table has the candidates' diagonals, which a float counts.
-use Prim.Native.Nat.{◌-◌, ◌<◌}
+use Prim.Native.Nat.{◌<◌}
 use mathlib.Core.List.{[]}
 use native.Mathlib.Omega.{arith}
 use native.Mathlib.Nat.{not-suc-le-zero}

@@ -1,5 +1,5 @@
 -- `bad_mapping`: the entries before j are primitive sites.
-use Prim.Native.Nat.{◌-◌, ◌<◌}
+use Prim.Native.Nat.{◌<◌}
 use mathlib.Core.Path.{◌≡◌, refl, sym, ap, subst, ◌∙◌}
 use mathlib.Core.Bool.{true, false, not}
 use native.Mathlib.Omega.{arith}
