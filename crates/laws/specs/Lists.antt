@@ -1,6 +1,7 @@
 -- Laws of the words on lists and of tests.
 use Prim.Native.Nat.{ℕ, zero, suc, ◌+◌, ◌-◌, ◌*◌, ◌≤◌, ◌<◌}
-use Rattle.std.specs.Prelude.{◌≡◌, Bool, ◌&&◌, ◌↔◌, ◌⊎◌, take, drop}
+use Rattle.std.specs.List.{list_all, list_any}
+use Rattle.std.specs.Prelude.{◌≡◌, Bool, ◌&&◌, ◌||◌, ◌↔◌, ◌⊎◌, take, drop}
 use Rattle.std.proofs.Math.Path.{refl, sym, ap, subst}
 use Rattle.std.proofs.Common.{◌∙◌, inl, inr, ⊎_elim, le_of_suc-le-suc, not-suc-le-zero, mul-le-mul_right, suc-mul, add-one, drop_of_length-le, drop-cons}
 use Rattle.std.proofs.Math.Bool.{true, false, and_assoc}
@@ -71,6 +72,22 @@ module _ {A : Type 0} (t : A → Bool) where
       ∙ ap (λ (y : Bool). t x && y) (all_append a b)
       ∙ sym (and_assoc (t x) (all t a) (all t b))
       ∙ ap (λ (y : Bool). y && all t b) (sym (all_is x a))
+
+  -- what `Iterator::all` says of a list
+  pub list_all-is_all : (l : List A) → list_all t l ≡ all t l
+  unfolding all
+  list_all-is_all [] = refl
+  list_all-is_all (a ∷ l) = ap (λ (y : Bool). t a && y) (list_all-is_all l) ∙ sym (all_is a l)
+
+  -- what `Iterator::any` says of a list
+  pub list_any-is_any : (l : List A) → list_any t l ≡ any t l
+  unfolding any
+  list_any-is_any [] = refl
+  list_any-is_any (a ∷ l) = ap (λ (y : Bool). t a || y) (list_any-is_any l) ∙ by (t a)
+    where
+      by : (b : Bool) → (b || any t l) ≡ elim b as (λ (x : Bool). Bool) [ true ↦ true | false ↦ any t l ]
+      by true = refl
+      by false = refl
 
   module _ (d : A) (l : List A) (i : ℕ) (h : i < length l) where
     pub all_pass : t (get_or l i d) ≡ true → all t (drop i l) ≡ all t (drop (i + 1) l)

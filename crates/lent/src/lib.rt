@@ -1,91 +1,72 @@
-// Lent lists: "After a refusal all lent output is zero", "and so are output entries past the answer". One function a
-// width: zero from
-// the place n on.
+// Lent lists: "After a refusal all lent output is zero", "and so are output entries past the answer".
 #![tactic(auto)]
 
-ghost use Rattle.std.specs.Prelude.{◌≡◌, length, take, pos};
+ghost use Rattle.std.specs.Prelude.{◌≡◌, length, take, replicate, pos};
 ghost use Rattle.definitions.specs.Refusal.{padded};
-ghost use Rattle.definitions.specs.Lent.{zero_cells, zero_point, zero_matrix};
-ghost use Rattle.definitions.specs.WholeCalls.{zero_text};
+ghost use Rattle.definitions.specs.Real.{zero_f};
 
-use definitions::{Cells, Point, Rotation, SnfMatrix, Text};
+// What a lent cell holds where there is no answer: of a number 0, of a float +0, of an array each entry's.
+pub trait Zero: Copy {
+    ghost ZERO: { Self };
 
-pub fn clear_u8(out: &mut [u8], n: usize)
-    ensures { out.new ≡ padded 0 (take n out.old) (length out.old) }
-{
-    let mut i = n;
-    while i < out.len() {
-        out[i] = 0;
-        i += 1;
-    }
+    const ZERO: Self;
 }
 
-pub fn clear_u16(out: &mut [u16], n: usize)
-    ensures { out.new ≡ padded 0 (take n out.old) (length out.old) }
-{
-    let mut i = n;
-    while i < out.len() {
-        out[i] = 0;
-        i += 1;
-    }
+impl Zero for u8 {
+    ghost ZERO = { 0 };
+
+    const ZERO: u8 = 0;
 }
 
-pub fn clear_i32(out: &mut [i32], n: usize)
-    ensures { out.new ≡ padded (pos 0) (take n out.old) (length out.old) }
-{
-    let mut i = n;
-    while i < out.len() {
-        out[i] = 0;
-        i += 1;
-    }
+impl Zero for u16 {
+    ghost ZERO = { 0 };
+
+    const ZERO: u16 = 0;
 }
 
-pub fn clear_cells(out: &mut [Cells], n: usize)
-    ensures { out.new ≡ padded zero_cells (take n out.old) (length out.old) }
-{
-    let mut i = n;
-    while i < out.len() {
-        out[i] = [0.0, 0.0, 0.0];
-        i += 1;
-    }
+impl Zero for i8 {
+    ghost ZERO = { pos 0 };
+
+    const ZERO: i8 = 0;
 }
 
-pub fn clear_points(out: &mut [Point], n: usize)
-    ensures { out.new ≡ padded zero_point (take n out.old) (length out.old) }
-{
-    let mut i = n;
-    while i < out.len() {
-        out[i] = [0, 0, 0];
-        i += 1;
-    }
+impl Zero for i16 {
+    ghost ZERO = { pos 0 };
+
+    const ZERO: i16 = 0;
 }
 
-pub fn clear_rotations(out: &mut [Rotation], n: usize)
-    ensures { out.new ≡ padded zero_matrix (take n out.old) (length out.old) }
-{
-    let mut i = n;
-    while i < out.len() {
-        out[i] = [[0; 3]; 3];
-        i += 1;
-    }
+impl Zero for i32 {
+    ghost ZERO = { pos 0 };
+
+    const ZERO: i32 = 0;
 }
 
-pub fn clear_snf(out: &mut [SnfMatrix], n: usize)
-    ensures { out.new ≡ padded zero_matrix (take n out.old) (length out.old) }
-{
-    let mut i = n;
-    while i < out.len() {
-        out[i] = [[0; 3]; 3];
-        i += 1;
-    }
+impl Zero for i64 {
+    ghost ZERO = { pos 0 };
+
+    const ZERO: i64 = 0;
 }
 
-pub fn clear_texts(out: &mut [Text], n: usize)
-    ensures { out.new ≡ padded zero_text (take n out.old) (length out.old) }
+impl Zero for f64 {
+    ghost ZERO = { zero_f };
+
+    const ZERO: f64 = 0.0;
+}
+
+impl<T: Zero, const N: usize> Zero for [T; N] {
+    ghost ZERO = { replicate N T.ZERO };
+
+    const ZERO: [T; N] = [T::ZERO; N];
+}
+
+// Zero from the place n on.
+pub fn clear<T: Zero>(out: &mut [T], n: usize)
+    ensures { out.new ≡ padded T.ZERO (take n out.old) (length out.old) }
 {
-    let mut i = n;
-    while i < out.len() {
-        out[i] = [0; 64];
-        i += 1;
+    if n < out.len() {
+        for x in &mut out[n..] {
+            *x = T::ZERO;
+        }
     }
 }
