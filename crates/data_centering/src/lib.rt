@@ -4,23 +4,24 @@
 ghost use Rattle.std.specs.Prelude.{◌≡◌};
 ghost use Rattle.definitions.specs.Centering.{linear as linear_of};
 
-use definitions::Centering;
+use definitions::{Centering, Linear};
 
-const P: [[i8; 3]; 3] = [[1, 0, 0], [0, 1, 0], [0, 0, 1]];
+const P: Linear = [[1, 0, 0], [0, 1, 0], [0, 0, 1]];
 
-const A: [[i8; 3]; 3] = [[1, 0, 0], [0, 1, 1], [0, -1, 1]];
+const A: Linear = [[1, 0, 0], [0, 1, 1], [0, -1, 1]];
 
-const B: [[i8; 3]; 3] = [[1, 0, -1], [0, 1, 0], [1, 0, 1]];
+const B: Linear = [[1, 0, -1], [0, 1, 0], [1, 0, 1]];
 
-const C: [[i8; 3]; 3] = [[1, -1, 0], [1, 1, 0], [0, 0, 1]];
+const C: Linear = [[1, -1, 0], [1, 1, 0], [0, 0, 1]];
 
-const I: [[i8; 3]; 3] = [[0, 1, 1], [1, 0, 1], [1, 1, 0]];
+const I: Linear = [[0, 1, 1], [1, 0, 1], [1, 1, 0]];
 
-const R: [[i8; 3]; 3] = [[1, 0, 1], [-1, 1, 1], [0, -1, 1]];
+const R: Linear = [[1, 0, 1], [-1, 1, 1], [0, -1, 1]];
 
-const F: [[i8; 3]; 3] = [[-1, 1, 1], [1, -1, 1], [1, 1, -1]];
+const F: Linear = [[-1, 1, 1], [1, -1, 1], [1, 1, -1]];
 
-pub fn linear(centering: Centering) -> [[i8; 3]; 3]
+#[tactic(auto, unfolding(definitions::specs::Centering::linear))]
+pub fn linear(centering: Centering) -> Linear
     ensures { result ≡ linear_of centering }
 {
     match centering {

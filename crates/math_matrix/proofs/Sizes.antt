@@ -2,14 +2,12 @@
 use Prim.Native.Nat.{ℕ, zero, suc, ◌*◌, ◌≤◌, zero-le}
 use mathlib.Core.Path.{◌≡◌, refl}
 use mathlib.Core.Bool.{Bool, true, false, cond}
-use mathlib.Core.List.{List}
 use native.Mathlib.Omega.{arith}
 use lib.Dec.{eqb}
 use lib.IntN.{ℤ, pos, nat_abs, ◌+ℤ◌, ◌*ℤ◌}
 use borrow.Author.Tests.{eqb-true}
-use Rattle.definitions.specs.Matrix.{Matrix, at, mat, item, three, dot, cofactor, det, next, after, unit}
+use Rattle.definitions.specs.Matrix.{Matrix, at, mat, item, three, dot, mul_m, cofactor, det, next, after, unit}
 use Rattle.math_matrix.specs.Bounds.{abs-add, abs-sub, abs-mul_le}
-use Rattle.math_matrix.specs.Rows.{row_times}
 
 -- no entry is larger than n
 abbrev pub Bound : ℕ → Matrix → Type 0
@@ -53,13 +51,11 @@ unit-abs z = by (eqb (nat_abs z) 1) refl
     by true e = omega (arith, eqb-true (nat_abs z) 1 e)
     by false e = omega arith
 
--- a row of 16 bits times a matrix of 8 fits 32
-pub row_small :
-    (x : List ℤ) (y : Matrix) → ((j : ℕ) → nat_abs (item x j) ≤ 32768) → Bound 128 y →
-    (j : ℕ) → nat_abs (item (row_times x y) j) ≤ 2147483647
-row_small x y l g =
-    three-all
+-- 16 bits times 8 fit 32
+pub product_small : (a b : Matrix) → Bound 32768 a → Bound 128 b → Bound 2147483647 (mul_m a b)
+product_small a b l g =
+    mat-all
     (λ z. nat_abs z ≤ 2147483647)
-    (λ j. dot (item x 0) (item x 1) (item x 2) (at y 0 j) (at y 1 j) (at y 2 j))
+    (λ i j. dot (at a i 0) (at a i 1) (at a i 2) (at b 0 j) (at b 1 j) (at b 2 j))
     zero-le
-    (λ j. omega (arith, dot-abs 32768 128 (item x 0) (item x 1) (item x 2) (at y 0 j) (at y 1 j) (at y 2 j) (l 0) (l 1) (l 2) (g 0 j) (g 1 j) (g 2 j)))
+    (λ i j. omega (arith, dot-abs 32768 128 (at a i 0) (at a i 1) (at a i 2) (at b 0 j) (at b 1 j) (at b 2 j) (l i 0) (l i 1) (l i 2) (g 0 j) (g 1 j) (g 2 j)))

@@ -1,17 +1,14 @@
 -- What a function computes fits its width, so it is read back as it was computed.
-use Prim.Native.Nat.{ℕ, ◌+◌, ◌≤◌, ◌<◌, ◌^◌}
+use Prim.Native.Nat.{ℕ, ◌≤◌, ◌<◌, ◌^◌}
 use mathlib.Core.Path.{◌≡◌, sym, subst, ◌∙◌}
 use mathlib.Core.List.{List}
 use native.Mathlib.Omega.{arith}
-use lib.Dec.{T, ltb, leb→le, le→leb}
-use lib.Pow.{pow-add, pow-lt}
 use lib.IntN.{ℤ, nat_abs, ◌+ℤ◌, ◌*ℤ◌}
 use lib.Signed.{mag}
 use mir.Syntax.{Width, w16, w32, w64}
 use mir.Val.{SFits, hbits, to_z, of_z}
 use mir.ValLaws.{to_z-of_z}
-use mir.Facts.{sfits_widen}
-use Rattle.definitions.specs.Matrix.{item, three}
+use Rattle.definitions.specs.Matrix.{item}
 use Rattle.math_matrix.specs.Bounds.{abs-add, abs-mul_le, abs_fits, fits_abs, back}
 use Rattle.math_matrix.specs.Rows.{dot_of}
 use Rattle.math_matrix.proofs.Sizes.{dot-abs}
@@ -38,31 +35,7 @@ cast_fits v w {z} f g = is_fits (to_z-of_z v z f) g
 pub cast_back : (v w : Width) {z : ℤ} → SFits v z → SFits w z → read w (read v z) ≡ z
 cast_back v w {z} f g = is_back w (to_z-of_z v z f) g
 
--- and so a row of numbers
-pub record Cast (v w : Width) (x : List ℤ) : Type 0 where
-  pub at : (j : ℕ) → SFits w (read v (item x j))
-  pub row : three (λ j. read w (read v (item x j))) ≡ three (item x)
-
-pub cast : (v w : Width) (x : List ℤ) → ((j : ℕ) → SFits v (item x j)) → ((j : ℕ) → SFits w (item x j)) → Cast v w x
-cast v w x f g = record { at = λ j. cast_fits v w (f j) (g j); row = λ i. three (λ j. cast_back v w (f j) (g j) i) }
-
--- ---- Products: numbers of the widths u and v, multiplied at a width w that is as wide as both together.
-
-pub record Multiplied (u v w : Width) (a b : ℤ) : Type 0 where
-  pub left : SFits w (read u a)
-  pub right : SFits w (read v b)
-  pub whole : SFits w (read w (read u a) *ℤ read w (read v b))
-  pub value : read w (read w (read u a) *ℤ read w (read v b)) ≡ a *ℤ b
-
-pub multiplied : (u v w : Width) {a b : ℤ} → T (ltb (hbits u + hbits v) (hbits w)) → SFits u a → SFits v b → Multiplied u v w a b
-multiplied u v w {a} {b} t f g =
-    let d : hbits u + hbits v < hbits w = leb→le _ _ t in
-    let p : SFits w a = sfits_widen (le→leb (hbits u) (hbits w) (omega arith)) f in
-    let q : SFits w b = sfits_widen (le→leb (hbits v) (hbits w) (omega arith)) g in
-    let m = abs-mul_le a b (2 ^ hbits u) (2 ^ hbits v) (abs_fits u a f) (abs_fits v b g) in
-    let r = fits_abs w (a *ℤ b) (omega (arith, pow-add 2 (hbits u) (hbits v), pow-lt d)) in
-    let e : read w (read u a) *ℤ read w (read v b) ≡ a *ℤ b = λ i. cast_back u w f p i *ℤ cast_back v w g q i in
-    record { left = cast_fits u w f p; right = cast_fits v w g q; whole = is_fits e r; value = is_back w e r }
+-- ---- products
 
 -- the result z of a call that multiplies stored numbers
 pub told_product : (u v w : Width) {a b z : ℤ} → SFits u a → SFits v b → mag z < 2 ^ hbits w → z ≡ read u a *ℤ read v b → read w z ≡ a *ℤ b

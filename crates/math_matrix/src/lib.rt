@@ -2,63 +2,65 @@
 // Entries have 16 bits, cofactors 32 and sums 64, so that the types keep every number in range.
 #![tactic(auto)]
 
-ghost use Rattle.std.specs.Prelude.{◌≡◌, ℕ, ◌≤◌, ◌<◌, ℤ, nat_abs, ◌*ℤ◌};
-ghost use Rattle.definitions.specs.Matrix.{at, item, three, minor, unit, mul_m};
+ghost use Rattle.std.specs.Prelude.{◌≡◌, ℕ, ◌≤◌, [], get_or, nat_abs, ◌*ℤ◌};
+ghost use Rattle.definitions.specs.Matrix.{item, three, minor, transpose, unit, mul_m};
 ghost use Rattle.definitions.specs.Matrix.{det as det_of, adjugate as adjugate_of};
 ghost use Rattle.definitions.specs.Matrix.{inverse as inverse_of, apply as apply_of};
-ghost use Rattle.math_matrix.specs.Rows.{minors_of, dot_of, row_times};
+ghost use Rattle.math_matrix.specs.Rows.{cross_of, dot_of};
 
 use definitions::{Cofactors, Integers, Linear, Point, Rotation, SnfMatrix};
 
 fn wide_row(x: [i8; 3]) -> [i16; 3]
-    ensures { result ≡ three (item x) }
+    ensures { result ≡ x }
 {
-    [x[0] as i16, x[1] as i16, x[2] as i16]
+    x.map(i16::from)
 }
 
 pub fn widened(m: Rotation) -> SnfMatrix
     ensures { result ≡ m }
 {
-    let p = wide_row(m[0]);
-    let q = wide_row(m[1]);
-    let t = wide_row(m[2]);
-    [p, q, t]
+    m.map(wide_row)
+}
+
+// The columns of m.
+fn transposed(m: SnfMatrix) -> SnfMatrix
+    ensures { result ≡ transpose m }
+{
+    let [p, q, r] = m;
+    [[p[0], q[0], r[0]], [p[1], q[1], r[1]], [p[2], q[2], r[2]]]
 }
 
 // ---- minors
 
+// `product` and `term` stay two: each is safe by its own widths, and a trait over the widths is longer than both.
 fn product(a: i16, b: i16) -> i32
     ensures { result ≡ a *ℤ b }
 {
-    a as i32 * b as i32
+    i32::from(a) * i32::from(b)
 }
 
-// of the rows p and q, in the columns a and b: entries of 16 bits give one of 32
-fn minor_at(p: [i16; 3], q: [i16; 3], a: usize, b: usize) -> i32
-    requires { (a < 3) × (b < 3) }
-    ensures { result ≡ minor (item p a) (item p b) (item q a) (item q b) }
+// of the rows (a, b) and (c, d): entries of 16 bits give one of 32
+fn minor_of(a: i16, b: i16, c: i16, d: i16) -> i32
+    ensures { result ≡ minor a b c d }
 {
-    product(p[a], q[b]) - product(p[b], q[a])
+    product(a, d) - product(b, c)
 }
 
-// in the columns a and b, those of the two rows that follow each row
-fn minors(m: SnfMatrix, a: usize, b: usize) -> [i32; 3]
-    requires { (a < 3) × (b < 3) }
-    ensures { result ≡ minors_of m a b }
+// The minors of the columns a and b, their vector product: row i of the adjugate where they are those that follow i.
+fn cross(a: [i16; 3], b: [i16; 3]) -> [i32; 3]
+    ensures { result ≡ cross_of a b }
 {
-    let x = minor_at(m[1], m[2], a, b);
-    let y = minor_at(m[2], m[0], a, b);
-    let z = minor_at(m[0], m[1], a, b);
+    let x = minor_of(a[1], b[1], a[2], b[2]);
+    let y = minor_of(a[2], b[2], a[0], b[0]);
+    let z = minor_of(a[0], b[0], a[1], b[1]);
     [x, y, z]
 }
 
 pub fn adjugate(m: SnfMatrix) -> Cofactors
     ensures { result ≡ adjugate_of m }
 {
-    let r0 = minors(m, 1, 2);
-    let r1 = minors(m, 2, 0);
-    let r2 = minors(m, 0, 1);
-    [r0, r1, r2]
+    let [a, b, c] = transposed(m);
+    [cross(b, c), cross(c, a), cross(a, b)]
 }
 
 // ---- sums of products
@@ -66,7 +68,7 @@ pub fn adjugate(m: SnfMatrix) -> Cofactors
 fn term(x: i32, a: i16) -> i64
     ensures { result ≡ x *ℤ a }
 {
-    x as i64 * a as i64
+    i64::from(x) * i64::from(a)
 }
 
 fn row_dot(x: [i32; 3], a: [i16; 3]) -> i64
@@ -75,101 +77,107 @@ fn row_dot(x: [i32; 3], a: [i16; 3]) -> i64
     term(x[0], a[0]) + term(x[1], a[1]) + term(x[2], a[2])
 }
 
+// Row by row: of `map` with a closure that holds f, the proof did not close.
 pub fn apply(m: Cofactors, f: [i16; 3]) -> Point
     ensures { result ≡ apply_of m f }
 {
-    let x = row_dot(m[0], f);
-    let y = row_dot(m[1], f);
-    let z = row_dot(m[2], f);
-    [x, y, z]
-}
-
-fn column(m: SnfMatrix, j: usize) -> [i16; 3]
-    requires { j < 3 }
-    ensures { result ≡ three (λ i. at m i j) }
-{
-    [m[0][j], m[1][j], m[2][j]]
+    let [a, b, c] = m;
+    [row_dot(a, f), row_dot(b, f), row_dot(c, f)]
 }
 
 pub fn determinant(m: SnfMatrix) -> i64
     ensures { result ≡ det_of m }
 {
-    row_dot(minors(m, 1, 2), column(m, 0))
+    let [a, b, c] = transposed(m);
+    row_dot(cross(b, c), a)
 }
 
 // ---- the inverse
 
 // the minors, k times, where k is 1 or -1; else zero
-fn signed_minors(k: i64, m: SnfMatrix, a: usize, b: usize) -> [i32; 3]
-    requires { (a < 3) × (b < 3) }
-    ensures { result ≡ three (λ i. unit k *ℤ item (minors_of m a b) i) }
+fn signed_cross(k: i64, a: [i16; 3], b: [i16; 3]) -> [i32; 3]
+    ensures { result ≡ three (λ i. unit k *ℤ item (cross_of a b) i) }
 {
-    if k == 1 {
-        return minors(m, a, b);
+    match k {
+        1 => cross(a, b),
+        -1 => cross(b, a),
+        _ => [0; 3],
     }
-    if k == -1 {
-        return minors(m, b, a);
-    }
-    [0, 0, 0]
 }
 
 pub fn inverse(m: SnfMatrix) -> Cofactors
     ensures { result ≡ inverse_of m }
 {
     let k = determinant(m);
-    let r0 = signed_minors(k, m, 1, 2);
-    let r1 = signed_minors(k, m, 2, 0);
-    let r2 = signed_minors(k, m, 0, 1);
-    [r0, r1, r2]
+    let [a, b, c] = transposed(m);
+    [
+        signed_cross(k, b, c),
+        signed_cross(k, c, a),
+        signed_cross(k, a, b),
+    ]
 }
 
 // ---- another basis
 
-fn row_times(x: [i32; 3], m: SnfMatrix) -> [i64; 3]
-    ensures { result ≡ row_times x m }
+fn long_row(x: [i16; 3]) -> [i32; 3]
+    ensures { result ≡ x }
 {
-    let a = row_dot(x, column(m, 0));
-    let b = row_dot(x, column(m, 1));
-    let c = row_dot(x, column(m, 2));
-    [a, b, c]
+    x.map(i32::from)
 }
 
+fn long(m: SnfMatrix) -> Cofactors
+    ensures { result ≡ m }
+{
+    m.map(long_row)
+}
+
+// `narrow_row` and `short_row` stay two: `as` has no generic form, and `TryFrom` has an error that cannot come here.
 fn narrow_row(x: [i64; 3]) -> [i32; 3]
     requires { (j : ℕ) → nat_abs (item x j) ≤ 2147483647 }
     ensures { result ≡ three (item x) }
 {
-    [x[0] as i32, x[1] as i32, x[2] as i32]
-}
-
-fn long_row(x: [i16; 3]) -> [i32; 3]
-    ensures { result ≡ three (item x) }
-{
-    [x[0] as i32, x[1] as i32, x[2] as i32]
+    let [a, b, c] = x;
+    [a as i32, b as i32, c as i32]
 }
 
 fn short_row(x: [i32; 3]) -> [i16; 3]
     requires { (j : ℕ) → nat_abs (item x j) ≤ 32767 }
     ensures { result ≡ three (item x) }
 {
-    [x[0] as i16, x[1] as i16, x[2] as i16]
+    let [a, b, c] = x;
+    [a as i16, b as i16, c as i16]
 }
 
-// a row times r, whose entries are those of a rotation, then t
-fn row_times_both(x: [i16; 3], r: SnfMatrix, t: SnfMatrix) -> [i64; 3]
-    requires { (i j : ℕ) → nat_abs (at r i j) ≤ 128 }
-    ensures { result ≡ row_times (row_times x r) t }
+// A row times the matrix of these columns; column by column and not by `map`, as in `apply`.
+fn row_times(x: [i32; 3], columns: SnfMatrix) -> [i64; 3]
+    ensures { result ≡ three (λ j. dot_of x (get_or columns j [])) }
 {
-    row_times(narrow_row(row_times(long_row(x), r)), t)
+    let [a, b, c] = columns;
+    [row_dot(x, a), row_dot(x, b), row_dot(x, c)]
+}
+
+// Row by row and not by `map`, as in `apply`.
+fn times(a: Cofactors, b: SnfMatrix) -> Integers
+    ensures { result ≡ mul_m a b }
+{
+    let columns = transposed(b);
+    let [p, q, r] = a;
+    [
+        row_times(p, columns),
+        row_times(q, columns),
+        row_times(r, columns),
+    ]
 }
 
 // The inverse where t is unimodular: a minor of numbers of 8 bits has 16.
 pub fn unimodular_inverse(t: Linear) -> SnfMatrix
     ensures { result ≡ inverse_of t }
 {
-    let i = inverse(widened(t));
-    let r0 = short_row(i[0]);
-    let r1 = short_row(i[1]);
-    let r2 = short_row(i[2]);
+    // row by row: of `map` with `short_row`, which requires small entries, the proof did not close
+    let [a, b, c] = inverse(widened(t));
+    let r0 = short_row(a);
+    let r1 = short_row(b);
+    let r2 = short_row(c);
     [r0, r1, r2]
 }
 
@@ -177,11 +185,12 @@ pub fn unimodular_inverse(t: Linear) -> SnfMatrix
 pub fn transform_by(i: SnfMatrix, t: SnfMatrix, r: Rotation) -> Integers
     ensures { result ≡ mul_m (mul_m i r) t }
 {
-    let a = widened(r);
-    let r0 = row_times_both(i[0], a, t);
-    let r1 = row_times_both(i[1], a, t);
-    let r2 = row_times_both(i[2], a, t);
-    [r0, r1, r2]
+    // 16 bits times 8 are small enough to be narrowed; row by row, as above
+    let [a, b, c] = times(long(i), widened(r));
+    let r0 = narrow_row(a);
+    let r1 = narrow_row(b);
+    let r2 = narrow_row(c);
+    times([r0, r1, r2], t)
 }
 
 // t⁻¹ r t (moyo's `UnimodularTransformation::transform_operation`)

@@ -1,15 +1,15 @@
--- The three rows' tests are the matrix's.
-use mathlib.Core.Path.{◌≡◌}
-use mathlib.Core.List.{[]}
-use lib.ListN.{length}
+-- What `Iterator::all` says of the list, in the definition's word.
+use mathlib.Core.Path.{◌∙◌}
 use borrow.Author.Rules.{rules}
+use borrow.Author.Tests.{tests}
+use Rattle.std.proofs.lemmas.Iterator.{YieldsList-from_slice}
+use Rattle.std.proofs.lemmas.Iterator.Search.{all_from_yields_List}
+use Rattle.laws.specs.Lists.{list_all-is_all}
 use Rattle.definitions.specs.Lists.{all}
 use Rattle.checks.specs.Entries.{small_entry}
-use Rattle.laws.specs.Lists.{all_three}
 use Rattle.checks.proofs.in_range.Goals as goal
 
 pub returns : goal.returns
 returns c =
-    let n : length c.args.m ≡ 3 = search rules in
-    simp (c.row_in_range-z.ensures, c.row_in_range-y.ensures, c.row_in_range-x.ensures)
-    (all_three (all small_entry) [] c.args.m n)
+    all_from_yields_List (all small_entry) _ _ c.all.result c.all.ensures.ran (YieldsList-from_slice c.args.m cc) (λ x b q k. search (rules, tests))
+    ∙ list_all-is_all (all small_entry) c.args.m

@@ -1,15 +1,15 @@
--- The three rows' tests are the lattice's.
-use mathlib.Core.Path.{◌≡◌}
-use mathlib.Core.List.{[]}
-use lib.ListN.{length}
+-- What `Iterator::all` says of the list, in the definition's word.
+use mathlib.Core.Path.{◌∙◌}
 use borrow.Author.Rules.{rules}
+use borrow.Author.Tests.{tests}
+use Rattle.std.proofs.lemmas.Iterator.{YieldsList-from_slice}
+use Rattle.std.proofs.lemmas.Iterator.Search.{all_from_yields_List}
+use Rattle.laws.specs.Lists.{list_all-is_all}
 use Rattle.definitions.specs.Lists.{all}
-use Rattle.definitions.specs.Limits.{within}
-use Rattle.laws.specs.Lists.{all_three}
+use Rattle.definitions.specs.Limits.{within, lattice_limit}
 use Rattle.checks.proofs.lattice_within.Goals as goal
 
 pub returns : goal.returns
 returns c =
-    let n : length c.args.l ≡ 3 = search rules in
-    simp (c.row_within-z.ensures, c.row_within-y.ensures, c.row_within-x.ensures)
-    (all_three (all (within 1000000)) [] c.args.l n)
+    all_from_yields_List (all (within lattice_limit)) _ _ c.all.result c.all.ensures.ran (YieldsList-from_slice c.args.l cc) (λ x b q k. search (rules, tests))
+    ∙ list_all-is_all (all (within lattice_limit)) c.args.l

@@ -1,21 +1,14 @@
--- The three entries' tests are the row's, since a row has three entries.
-use mathlib.Core.Path.{◌≡◌}
-use lib.ListN.{get_or, length}
-use lib.IntN.{pos}
-use mir.Syntax.{w8}
+-- What `Iterator::all` says of the list, in the definition's word.
+use mathlib.Core.Path.{◌∙◌}
 use borrow.Author.Rules.{rules}
-use Rattle.math_matrix.specs.Bounds.{back}
+use borrow.Author.Tests.{tests}
+use Rattle.std.proofs.lemmas.Iterator.{YieldsList-from_slice}
+use Rattle.std.proofs.lemmas.Iterator.Search.{all_from_yields_List}
+use Rattle.laws.specs.Lists.{list_all-is_all}
 use Rattle.checks.specs.Entries.{small_entry}
-use Rattle.laws.specs.Lists.{all_three}
 use Rattle.checks.proofs.row_in_range.Goals as goal
 
 pub returns : goal.returns
 returns c =
-    let n : length c.args.v ≡ 3 = search rules in
-    simp (c.entry_in_range-z.ensures, c.entry_in_range-y.ensures, c.entry_in_range-x.ensures)
-    (simp (
-      back w8 (get_or c.args.v 0 (pos 0)) c.entry_in_range-arg-1.given,
-      back w8 (get_or c.args.v 1 (pos 0)) c.entry_in_range-arg-2-1.given,
-      back w8 (get_or c.args.v 2 (pos 0)) c.entry_in_range-arg-3-1.given,
-    )
-    (all_three small_entry (pos 0) c.args.v n))
+    all_from_yields_List small_entry _ _ c.all.result c.all.ensures.ran (YieldsList-from_slice c.args.v cc) (λ x b q k. search (rules, tests))
+    ∙ list_all-is_all small_entry c.args.v

@@ -1,14 +1,14 @@
--- The three entries' tests are the row's.
-use mathlib.Core.Path.{◌≡◌}
-use lib.Ieee.{nan}
-use lib.ListN.{length}
+-- What `Iterator::all` says of the list, in the definition's word.
+use mathlib.Core.Path.{◌∙◌}
 use borrow.Author.Rules.{rules}
-use Rattle.definitions.specs.Limits.{within}
-use Rattle.laws.specs.Lists.{all_three}
+use borrow.Author.Tests.{tests}
+use Rattle.std.proofs.lemmas.Iterator.{YieldsList-from_slice}
+use Rattle.std.proofs.lemmas.Iterator.Search.{all_from_yields_List}
+use Rattle.laws.specs.Lists.{list_all-is_all}
+use Rattle.definitions.specs.Limits.{within, lattice_limit}
 use Rattle.checks.proofs.row_within.Goals as goal
 
 pub returns : goal.returns
 returns c =
-    let n : length c.args.v ≡ 3 = search rules in
-    simp (c.within_lattice-z.ensures, c.within_lattice-y.ensures, c.within_lattice-x.ensures)
-    (all_three (within 1000000) nan c.args.v n)
+    all_from_yields_List (within lattice_limit) _ _ c.all.result c.all.ensures.ran (YieldsList-from_slice c.args.v cc) (λ x b q k. search (rules, tests))
+    ∙ list_all-is_all (within lattice_limit) c.args.v

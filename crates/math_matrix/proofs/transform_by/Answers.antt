@@ -1,31 +1,30 @@
--- `transform_by`: each row times a matrix of small numbers.
-use mathlib.Core.Path.{sym, subst, ◌∙◌}
-use mathlib.Core.List.{[], ◌∷◌}
-use lib.ListN.{get_or}
-use mir.Syntax.{w8}
-use Rattle.definitions.specs.Matrix.{three}
+-- `transform_by`: a row of 16 bits times a matrix of 8 fits 32.
+use mathlib.Core.Path.{◌≡◌, sym, subst}
+use mir.Syntax.{w8, w16}
+use mir.Val.{SFits}
+use Prim.Native.Nat.{ℕ}
+use Rattle.definitions.specs.Matrix.{Matrix, at, mul_m}
 use Rattle.math_matrix.specs.Bounds.{abs_fits}
-use Rattle.math_matrix.specs.Rows.{row_times}
 use Rattle.math_matrix.proofs.Shape.{good_entry}
-use Rattle.math_matrix.proofs.Sizes.{Bound}
+use Rattle.math_matrix.proofs.Sizes.{Bound, product_small}
 use Rattle.math_matrix.proofs.transform_by.Goals as goal
-use Rattle.math_matrix.proofs.transform_by.Goals.{After-widened-a}
 
-small : (c : After-widened-a) → Bound 128 c.widened-a.result
-small c =
-    subst (Bound 128) (sym c.widened-a.ensures) (λ i j. abs_fits w8 _ (good_entry w8 c.args.r c.well_formed.1.1.0 i j))
+module _ {i r a b p : Matrix} (d : a ≡ i) (e : b ≡ r) (f : p ≡ mul_m a b) where
+  small : ((j k : ℕ) → SFits w16 (at i j k)) → ((j k : ℕ) → SFits w8 (at r j k)) → Bound 2147483647 p
+  small g h =
+      subst (Bound 2147483647) (sym f)
+      (product_small a b
+      (subst (Bound 32768) (sym d) (λ j k. abs_fits w16 _ (g j k)))
+      (subst (Bound 128) (sym e) (λ j k. abs_fits w8 _ (h j k))))
 
-pub row_times_both-r0-requires : goal.row_times_both-r0-requires
-row_times_both-r0-requires c = small c.before
+pub narrow_row-r0-requires : goal.narrow_row-r0-requires
+narrow_row-r0-requires c =
+    small c.long.ensures c.widened.ensures c.times.ensures (good_entry w16 c.args.i c.well_formed.0) (good_entry w8 c.args.r c.well_formed.1.1.0) 0
 
-pub row_times_both-r1-requires : goal.row_times_both-r1-requires
-row_times_both-r1-requires c = small c.before.before.before
+pub narrow_row-r1-requires : goal.narrow_row-r1-requires
+narrow_row-r1-requires c =
+    small c.long.ensures c.widened.ensures c.times.ensures (good_entry w16 c.args.i c.well_formed.0) (good_entry w8 c.args.r c.well_formed.1.1.0) 1
 
-pub row_times_both-r2-requires : goal.row_times_both-r2-requires
-row_times_both-r2-requires c = small c.before.before.before.before.before
-
-pub returns : goal.returns
-returns c =
-    let a = c.args in
-    (λ k. c.row_times_both-r0.ensures k ∷ c.row_times_both-r1.ensures k ∷ c.row_times_both-r2.ensures k ∷ [])
-    ∙ (λ k. three (λ n. row_times (row_times (get_or a.i n []) (c.widened-a.ensures k)) a.t))
+pub narrow_row-r2-requires : goal.narrow_row-r2-requires
+narrow_row-r2-requires c =
+    small c.long.ensures c.widened.ensures c.times.ensures (good_entry w16 c.args.i c.well_formed.0) (good_entry w8 c.args.r c.well_formed.1.1.0) 2
