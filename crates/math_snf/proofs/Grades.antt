@@ -1,7 +1,7 @@
 -- The steps of a pass, graded one by one, are the pass, graded.
 use Prim.Native.Nat.{ℕ, suc, zero, ◌<◌}
 use mathlib.Core.Path.{◌≡◌, refl, sym, ap, ◌∙◌, subst, ap₂}
-use mathlib.Core.Bool.{Bool, true, false, cond, ◌&&◌, ◌||◌, and-true, or-false, or-true}
+use mathlib.Core.Bool.{Bool, true, false, cond, ◌&&◌, ◌||◌, or-false, or-true}
 use mathlib.Core.List.{List, [], ◌∷◌, ◌++◌, append-nil, append_assoc}
 use native.Mathlib.Omega.{arith}
 use lib.Dec.{leb}
@@ -14,13 +14,9 @@ use Rattle.laws.specs.Tests.{both_true}
 use Rattle.laws.specs.Lists.{all_is, all_append}
 use Rattle.math_matrix.specs.Solve.{var, con, ◌⊖◌, ◌⊗◌, minus, solve}
 use Rattle.math_snf_laws.specs.Cases.{plain, row_quotient, row_cleared, row_cases, column_quotient, column_cleared, column_cases}
+use Rattle.math_snf.specs.declared.Grade.{Grade}
+use Rattle.math_snf.specs.declared.Grade.TheVariants.{Idle, Cleared, Strayed}
 use Rattle.math_snf.specs.Step.{kept, kept_row, kept_column, grade, worse, Graded, row_below, column_right}
-
--- ---- tests over lists
-
-pub all_three : {A : Type 0} (t : A → Bool) (x y z : A) → all t (x ∷ y ∷ z ∷ []) ≡ (t x && (t y && t z))
-unfolding all
-all_three t x y z = all_is t x (y ∷ z ∷ []) ∙ ap (λ (b : Bool). t x && b) (all_is t y (z ∷ []) ∙ ap (λ (b : Bool). t y && b) (all_is t z [] ∙ and-true (t z)))
 
 -- ---- entries that are kept
 
@@ -66,8 +62,8 @@ module _ (k : ℤ) (s : ℕ) (m : Matrix) where
   column_keeps (suc (suc zero)) h = record { tested = three-kept _ _ _; same = λ e. let f = three_small _ _ _ e in rw (f.0, f.1, f.2) }
   column_keeps (suc (suc (suc j))) h = absurd (omega arith)
 
-abbrev graded : Bool → Bool → ℕ
-graded b u = cond b (cond u 1 0) 2
+abbrev graded : Bool → Bool → Grade
+graded b u = cond b (cond u Cleared Idle) Strayed
 
 -- A step that assigns a line of two matrices, with the code's test b of both lines.
 module _ {line : Matrix → List ℤ} {x y m n m' n' : Matrix} (v : Keeps line m' x) (w : Keeps line n' y) (em : m ≡ m') (en : n ≡ n') where
@@ -104,7 +100,7 @@ worse_is false u true true = refl
 worse_is false u true false = refl
 worse_is false u false v = refl
 
-graded_then : (f : Pass → Pass) → Lifts f → (p : Pass) (g h : ℕ) (t u : State) → Graded p g t → Graded (f (plain t)) h u → Graded (f p) (worse g h) u
+graded_then : (f : Pass → Pass) → Lifts f → (p : Pass) (g h : Grade) (t u : State) → Graded p g t → Graded (f (plain t)) h u → Graded (f p) (worse g h) u
 graded_then f w p g h t u a b = record { same-grade = by (all small p.assigned) refl; same_state = reached }
   where
     split : all small (f p).assigned ≡ (all small p.assigned && all small (f (plain p.state)).assigned)
@@ -122,7 +118,7 @@ graded_then f w p g h t u a b = record { same-grade = by (all small p.assigned) 
         let here = a.same_state parts.0 in
         b.same_state (rw here parts.1) ∙ ap (λ (x : State). (f (plain x)).state) here ∙ sym (ap (λ (q : Pass). q.state) (w p))
 
-pub graded_none : (t : State) → Graded (plain t) 0 t
+pub graded_none : (t : State) → Graded (plain t) Idle t
 unfolding all
 graded_none t = record { same-grade = refl; same_state = λ _. refl }
 
@@ -162,24 +158,24 @@ module _ (s i : ℕ) where
     abbrev column_k : ℤ
     column_k = column_quotient s i (plain t)
 
-    pub row_not : nat_abs row_k ≡ 0 → Graded (clear_row s i (plain t)) 0 t
+    pub row_not : nat_abs row_k ≡ 0 → Graded (clear_row s i (plain t)) Idle t
     unfolding clear_row
     row_not z = rw z (graded_none t)
 
-    pub column_not : nat_abs column_k ≡ 0 → Graded (clear_column s i (plain t)) 0 t
+    pub column_not : nat_abs column_k ≡ 0 → Graded (clear_column s i (plain t)) Idle t
     unfolding clear_column
     column_not z = rw z (graded_none t)
 
     -- Where the quotient is not 0: both matrices as they are kept, graded by a test of each.
     module _ (b : Bool) (m n : Matrix) (h : i < 3) where
-      pub row-graded : (nat_abs row_k ≡ 0 → ⊥) → m ≡ kept_row i row_k s t.d → n ≡ kept_row i row_k s t.l → b ≡ (all small (row i m) && all small (row i n)) → Graded (clear_row s i (plain t)) (cond b 1 2) (record { d = m; l = n; r = t.r })
+      pub row-graded : (nat_abs row_k ≡ 0 → ⊥) → m ≡ kept_row i row_k s t.d → n ≡ kept_row i row_k s t.l → b ≡ (all small (row i m) && all small (row i n)) → Graded (clear_row s i (plain t)) (cond b Cleared Strayed) (record { d = m; l = n; r = t.r })
       row-graded z em en e =
-          row_cases (λ p. Graded p (cond b 1 2) (record { d = m; l = n; r = t.r })) s i (plain t) (λ o. absurd (z o))
+          row_cases (λ p. Graded p (cond b Cleared Strayed) (record { d = m; l = n; r = t.r })) s i (plain t) (λ o. absurd (z o))
           (step-graded (row_keeps row_k s t.d i h) (row_keeps row_k s t.l i h) em en (λ x y. record { d = x; l = y; r = t.r }) true b e)
 
-      pub column-graded : (nat_abs column_k ≡ 0 → ⊥) → m ≡ kept_column i column_k s t.d → n ≡ kept_column i column_k s t.r → b ≡ (all small (column i m) && all small (column i n)) → Graded (clear_column s i (plain t)) (cond b 1 2) (record { d = m; l = t.l; r = n })
+      pub column-graded : (nat_abs column_k ≡ 0 → ⊥) → m ≡ kept_column i column_k s t.d → n ≡ kept_column i column_k s t.r → b ≡ (all small (column i m) && all small (column i n)) → Graded (clear_column s i (plain t)) (cond b Cleared Strayed) (record { d = m; l = t.l; r = n })
       column-graded z em en e =
-          column_cases (λ p. Graded p (cond b 1 2) (record { d = m; l = t.l; r = n })) s i (plain t) (λ o. absurd (z o))
+          column_cases (λ p. Graded p (cond b Cleared Strayed) (record { d = m; l = t.l; r = n })) s i (plain t) (λ o. absurd (z o))
           (step-graded (column_keeps column_k s t.d i h) (column_keeps column_k s t.r i h) em en (λ x y. record { d = x; l = t.l; r = y }) true b e)
 
 -- ---- the sign: a column less twice itself is the column negated
@@ -196,12 +192,12 @@ less_twice (suc (suc (suc s))) m h = absurd (omega arith)
 negate_keeps : (s : ℕ) (m : Matrix) → s < 3 → Keeps (column s) (kept_column s (pos 2) s m) (negate_column s m)
 negate_keeps s m h = subst (Keeps (column s) (kept_column s (pos 2) s m)) (less_twice s m h) (column_keeps (pos 2) s m s h)
 
-pub signed_not : (s : ℕ) (t : State) (n : ℕ) → at t.d s s ≡ pos n → Graded (signed s t) 0 t
+pub signed_not : (s : ℕ) (t : State) (n : ℕ) → at t.d s s ≡ pos n → Graded (signed s t) Idle t
 unfolding signed
 signed_not s t n e = rw e (graded_none t)
 
 module _ (s : ℕ) (t : State) (k : ℕ) (b : Bool) (m n : Matrix) (h : s < 3) where
-  pub signed-graded : at t.d s s ≡ negsuc k → m ≡ kept_column s (pos 2) s t.d → n ≡ kept_column s (pos 2) s t.r → b ≡ (all small (column s m) && all small (column s n)) → Graded (signed s t) (cond b 0 2) (record { d = m; l = t.l; r = n })
+  pub signed-graded : at t.d s s ≡ negsuc k → m ≡ kept_column s (pos 2) s t.d → n ≡ kept_column s (pos 2) s t.r → b ≡ (all small (column s m) && all small (column s n)) → Graded (signed s t) (cond b Idle Strayed) (record { d = m; l = t.l; r = n })
   unfolding signed
   signed-graded z em en e = rw z (step-graded (negate_keeps s t.d h) (negate_keeps s t.r h) em en (λ x y. record { d = x; l = t.l; r = y }) false b e)
 
@@ -214,7 +210,7 @@ cleared_is (suc zero) p h = refl
 cleared_is (suc (suc zero)) p h = refl
 cleared_is (suc (suc (suc s))) p h = absurd (omega arith)
 
-pub sweep_graded : (s : ℕ) (t t₁ t₂ t₃ t₄ t₅ : State) (a b c e f : ℕ) → s < 3 → Graded (signed s t) a t₁ → Graded (row_below s 1 (plain t₁)) b t₂ → Graded (row_below s 2 (plain t₂)) c t₃ → Graded (column_right s 1 (plain t₃)) e t₄ → Graded (column_right s 2 (plain t₄)) f t₅ → Graded (cleared s (signed s t)) (worse (worse (worse (worse a b) c) e) f) t₅
+pub sweep_graded : (s : ℕ) (t t₁ t₂ t₃ t₄ t₅ : State) (a b c e f : Grade) → s < 3 → Graded (signed s t) a t₁ → Graded (row_below s 1 (plain t₁)) b t₂ → Graded (row_below s 2 (plain t₂)) c t₃ → Graded (column_right s 1 (plain t₃)) e t₄ → Graded (column_right s 2 (plain t₄)) f t₅ → Graded (cleared s (signed s t)) (worse (worse (worse (worse a b) c) e) f) t₅
 sweep_graded s t t₁ t₂ t₃ t₄ t₅ a b c e f h g₁ g₂ g₃ g₄ g₅ =
     let p₁ = signed s t in
     let p₂ = row_below s 1 p₁ in

@@ -5,7 +5,8 @@ use mathlib.Core.Bool.{Bool, true, false, cond, ◌&&◌, false≢true}
 use mathlib.Core.List.{List, [], ◌∷◌, ◌++◌, append_assoc}
 use mathlib.Core.Option.{Option, none, some}
 use native.Mathlib.Omega.{arith}
-use lib.Dec.{eqb, eqb-suc-zero, lit<}
+use Rattle.std.proofs.Common.{add-zero}
+use lib.Dec.{lit<}
 use lib.ListN.{length, length-append}
 use lib.IntN.{ℤ}
 use Rattle.definitions.specs.declared.Stages.{Stages}
@@ -18,7 +19,10 @@ use Rattle.math_snf_laws.specs.Pivot.{chosen}
 use Rattle.math_snf_laws.specs.Reduced.{falls}
 use Rattle.math_snf_laws.specs.Stages.{most, stage-passes, stage_found}
 use Rattle.math_snf_laws.specs.Begun.{small_append, small_one, small_cons, begun-append, begun_one, begun_left}
-use Rattle.math_snf.specs.Step.{grade, Graded, pass_at, passes_at, most_passes, EndedIn, RanIn}
+use Rattle.std.specs.Prelude.{Some, None}
+use Rattle.math_snf.specs.declared.Grade.{Grade}
+use Rattle.math_snf.specs.declared.Grade.TheVariants.{Idle, Cleared, Strayed}
+use Rattle.math_snf.specs.Step.{Passed, most_passes, EndedIn, RanIn, LeftIn}
 
 -- ---- every stage ends
 
@@ -64,21 +68,19 @@ pub record Going (s : ℕ) (t₀ : State) (n : ℕ) (t : State) : Type 0 where
   pub few : Few s t → Few s t₀
   pub on : (rest : List (List ℤ)) (u : State) → Stage s t rest u → Stage s t₀ (done ++ rest) u
 
--- the stage that has come in n passes to the grade g and the state t: it goes on, or it has ended
-abbrev pub At : ℕ → State → ℕ → ℕ → State → Type 0
-At s t₀ zero n t = EndedIn s t₀ true n t
-At s t₀ (suc zero) n t = Going s t₀ n t
-At s t₀ (suc (suc g)) n t = EndedIn s t₀ false n t
+-- the stage that has come in n passes, the last of the grade g, to the state t: it goes on, or it has ended
+abbrev pub At : ℕ → State → Grade → ℕ → State → Type 0
+At s t₀ Idle n t = EndedIn s t₀ true n t
+At s t₀ Cleared n t = Going s t₀ n t
+At s t₀ Strayed n t = EndedIn s t₀ false n t
 
-pub at_start : (s : ℕ) (t : State) → At s t 1 0 t
+pub at_start : (s : ℕ) (t : State) → Going s t 0 t
 unfolding all each
 at_start s t = record { done = []; is_in_range = refl; counted = refl; few = λ h. h; on = λ rest u x. x }
 
 -- what is left for a stage to do
-abbrev pub left : ℕ → ℕ → State → ℕ
-left s zero t = 0
-left s (suc zero) t = suc (due s t (pivot s t.d))
-left s (suc (suc g)) t = 0
+abbrev pub left : ℕ → State → ℕ
+left s t = due s t (pivot s t.d)
 
 module _ (s : ℕ) (low : s < 3) (t₀ t : State) (n : ℕ) (g : Going s t₀ n t) (h : Few s t) where
   pub passes_few : n ≤ most_passes
@@ -112,7 +114,7 @@ module _ (s : ℕ) (low : s < 3) (t₀ t : State) (n : ℕ) (g : Going s t₀ n 
       }
 
   -- Where a pass leaves the range the stage goes on, over whole numbers, to some end.
-  graded_at : (p : Place) → pivot s t.d ≡ some p → (b c : Bool) → all small (pass s p t).assigned ≡ b → (pass s p t).updated ≡ c → (t' : State) → (b ≡ true → t' ≡ (pass s p t).state) → At s t₀ (cond b (cond c 1 0) 2) (n + 1) t'
+  graded_at : (p : Place) → pivot s t.d ≡ some p → (b c : Bool) → all small (pass s p t).assigned ≡ b → (pass s p t).updated ≡ c → (t' : State) → (b ≡ true → t' ≡ (pass s p t).state) → At s t₀ (cond b (cond c Cleared Idle) Strayed) (n + 1) t'
   graded_at p e true true f c t' k = rw (k refl) (more p e c f)
   graded_at p e true false f c t' k = over ((pass s p t).assigned ∷ []) (pass s p t).state t' true 1 (last p e c) (small_one (pass s p t).assigned ∙ f) (begun_one (pass s p t).assigned) k
   graded_at p e false true f c t' k =
@@ -120,35 +122,30 @@ module _ (s : ℕ) (low : s < 3) (t₀ t : State) (n : ℕ) (g : Going s t₀ n 
       over ((pass s p t).assigned ∷ r.0) r.1 t' false 1 (again p e c r.2) (small_cons (pass s p t).assigned r.0 ∙ rw f) (begun_left (pass s p t).assigned r.0 f) (λ z. absurd (false≢true z))
   graded_at p e false false f c t' k = over ((pass s p t).assigned ∷ []) (pass s p t).state t' false 1 (last p e c) (small_one (pass s p t).assigned ∙ f) (begun_one (pass s p t).assigned) k
 
-  -- A pass of the code takes the stage on.
-  pub at_next : (i k : ℕ) (t' : State) → Graded (pass_at s t (pivot s t.d)) i t' → k ≡ passes_at (pivot s t.d) → At s t₀ i (n + k) t'
+  -- A pass of the code takes the stage on,
+  pub at_next : (i : Grade) (t' : State) → Passed s t (Some i) t' → At s t₀ i (n + 1) t'
+  at_next i t' w =
+      let p = w.0 in
+      let r = w.2 in
+      rw r.same-grade (graded_at p w.1 (all small (pass s p t).assigned) (pass s p t).updated refl refl t' r.same_state)
+
+  -- or finds no pivot.
+  pub at_none : (t' : State) → Passed s t None t' → EndedIn s t₀ true n t'
   unfolding all each begun
-  at_next i k t' r e = rw e (by (pivot s t.d) refl r.same-grade r.same_state)
-    where
-      by : (o : Option Place) → pivot s t.d ≡ o → i ≡ grade (pass_at s t o) → (all small (pass_at s t o).assigned ≡ true → t' ≡ (pass_at s t o).state) → At s t₀ i (n + passes_at o) t'
-      by none e a k = rw a (over [] t t' true 0 (empty e) refl refl k)
-      by (some p) e a k = rw a (graded_at p e (all small (pass s p t).assigned) (pass s p t).updated refl refl t' k)
+  at_none t' w = subst (λ (k : ℕ). EndedIn s t₀ true k t') (add-zero n) (over [] t t' true 0 (empty w.0) refl refl (λ _. w.1))
 
 module _ (s : ℕ) (low : s < 3) (t : State) where
   -- and leaves less of it
-  pub left_falls : (g : ℕ) (t' : State) → Graded (pass_at s t (pivot s t.d)) g t' → left s g t' < left s 1 t
-  unfolding all
-  left_falls g t' r = by (pivot s t.d) refl r.same-grade r.same_state
+  pub left_falls : (t' : State) → Passed s t (Some Cleared) t' → left s t' < left s t
+  left_falls t' w = pick (all small (pass s w.0 t).assigned) (pass s w.0 t).updated refl w.2.same-grade w.2.same_state
     where
-      pick : (p : Place) → pivot s t.d ≡ some p → (b c : Bool) → (pass s p t).updated ≡ c → (b ≡ true → t' ≡ (pass s p t).state) → left s (cond b (cond c 1 0) 2) t' < left s 1 t
-      pick p e true true c k = rw (k refl, e, c) (omega (arith, due_falls s low t p e))
-      pick p e true false c k = omega arith
-      pick p e false c u k = omega arith
+      p : Place
+      p = w.0
 
-      by : (o : Option Place) → pivot s t.d ≡ o → g ≡ grade (pass_at s t o) → (all small (pass_at s t o).assigned ≡ true → t' ≡ (pass_at s t o).state) → left s g t' < left s 1 t
-      by none e a k = rw a (omega arith)
-      by (some p) e a k = rw a (pick p e (all small (pass s p t).assigned) (pass s p t).updated refl k)
-
--- the loop is left with a grade that is not 1
-pub at_end_lem : (s : ℕ) (t₀ t : State) (g n : ℕ) → (g ≡ 1 → ⊥) → At s t₀ g n t → EndedIn s t₀ (eqb g 0) n t
-at_end_lem s t₀ t zero n h w = w
-at_end_lem s t₀ t (suc zero) n h w = absurd (h refl)
-at_end_lem s t₀ t (suc (suc g)) n h w = rw (eqb-suc-zero (suc g)) w
+      pick : (b c : Bool) → (pass s p t).updated ≡ c → Cleared ≡ cond b (cond c Cleared Idle) Strayed → (b ≡ true → t' ≡ (pass s p t).state) → left s t' < left s t
+      pick true true c g k = rw (k refl, w.1, c) (omega (arith, due_falls s low t p w.1))
+      pick true false c g k = absurd (cc)
+      pick false u c g k = absurd (cc)
 
 -- ---- the three stages
 
@@ -200,20 +197,22 @@ module _ (m : Matrix) where
       let r = stage_found (stage_of s low) t in
       (_, _, r.1, record { ended = record { assigned = r.0; «end» = r.1; stage = r.2; is_in_range = refl; same_state = λ z. refl }; counted = refl })
 
-  -- where an entry has left, nothing is said of the state
-  any_state : {n : Stages} (t t' : State) → RanIn m false n t → RanIn m false n t'
-  any_state t t' r = record { ran = record { run = r.ran.run; is_in_range = r.ran.is_in_range; same_state = λ z. absurd (false≢true z) }; counted = r.counted }
+  left_of : {n : Stages} {t : State} → RanIn m false n t → LeftIn m n
+  left_of r = record { run = r.ran.run; leaves = r.ran.is_in_range; counted = r.counted }
 
-  pub ran_first : (t₁ : State) (i : ℕ) → EndedIn 0 (start m) false i t₁ → RanIn m false (record { first = i; second = 0; third = 0 }) t₁
+  pub ran_first : (t₁ : State) (i : ℕ) → EndedIn 0 (start m) false i t₁ → LeftIn m (record { first = i; second = 0; third = 0 })
   ran_first t₁ i x =
       let y = some_end 1 (lit< tt) t₁ in
       let z = some_end 2 (lit< tt) y.2 in
-      any_state z.2 t₁ (stages_ran t₁ y.2 z.2 false y.0 z.0 i y.1 z.1 x y.3 z.3)
+      left_of (stages_ran t₁ y.2 z.2 false y.0 z.0 i y.1 z.1 x y.3 z.3)
 
-  pub ran_second : (t₁ t₂ : State) (i j : ℕ) → EndedIn 0 (start m) true i t₁ → EndedIn 1 t₁ false j t₂ → RanIn m false (record { first = i; second = j; third = 0 }) t₂
+  pub ran_second : (t₁ t₂ : State) (i j : ℕ) → EndedIn 0 (start m) true i t₁ → EndedIn 1 t₁ false j t₂ → LeftIn m (record { first = i; second = j; third = 0 })
   ran_second t₁ t₂ i j x y =
       let z = some_end 2 (lit< tt) t₂ in
-      any_state z.2 t₂ (stages_ran t₁ t₂ z.2 true false z.0 i j z.1 x y z.3)
+      left_of (stages_ran t₁ t₂ z.2 true false z.0 i j z.1 x y z.3)
 
-  pub ran : (t₁ t₂ t₃ : State) (c : Bool) (i j k : ℕ) → EndedIn 0 (start m) true i t₁ → EndedIn 1 t₁ true j t₂ → EndedIn 2 t₂ c k t₃ → RanIn m c (record { first = i; second = j; third = k }) t₃
-  ran t₁ t₂ t₃ c i j k x y z = stages_ran t₁ t₂ t₃ true true c i j k x y z
+  pub ran_third : (t₁ t₂ t₃ : State) (i j k : ℕ) → EndedIn 0 (start m) true i t₁ → EndedIn 1 t₁ true j t₂ → EndedIn 2 t₂ false k t₃ → LeftIn m (record { first = i; second = j; third = k })
+  ran_third t₁ t₂ t₃ i j k x y z = left_of (stages_ran t₁ t₂ t₃ true true false i j k x y z)
+
+  pub ran : (t₁ t₂ t₃ : State) (i j k : ℕ) → EndedIn 0 (start m) true i t₁ → EndedIn 1 t₁ true j t₂ → EndedIn 2 t₂ true k t₃ → RanIn m true (record { first = i; second = j; third = k }) t₃
+  ran t₁ t₂ t₃ i j k x y z = stages_ran t₁ t₂ t₃ true true true i j k x y z

@@ -1,23 +1,29 @@
-use mir.Syntax.{w16}
+-- `less_at`: one entry is written, of the value that the definition has there.
+use Rattle.std.proofs.Common.{◌≡◌, arith}
+use Rattle.std.specs.Prelude.{◌*ℤ◌, ◌-ℤ◌}
+use mir.Syntax.{w16, w32, w64}
+use mir.Val.{to_z, of_z}
 use mir.ValLaws.{to_z-of_z}
 use Rattle.definitions.specs.Matrix.{item}
 use Rattle.math_matrix.specs.Bounds.{back}
+use Rattle.math_matrix.proofs.Shape.{good_item}
+use Rattle.math_snf.specs.Step.{kept}
+use Rattle.math_snf.proofs.Lines.{set_entry}
+use Rattle.math_snf.proofs.less_at.Goals.{After-kept_entry, Start}
 use Rattle.math_snf.proofs.less_at.Goals as goal
 
-pub returns : goal.returns
-returns c =
-    let x = c.cleared_entry-p in
-    let y = c.cleared_entry-q in
-    let z = c.cleared_entry-t in
-    simp (back w16 x.result x.type_inv, back w16 y.result y.type_inv, back w16 z.result z.type_inv)
+value : (c : After-kept_entry) → to_z w16 (of_z w16 c.kept_entry.result) ≡ kept (item c.args.x c.args.j.at -ℤ c.args.k *ℤ item c.args.x c.args.s.at)
+value c =
+    let good = (goal.at.After-kept_entry c).Start.well_formed.0 in
+    simp (back w16 c.kept_entry.result c.kept_entry.type_inv)
+    (simp (c.kept_entry.ensures)
+    (simp (back w64 c.less_times.result c.less_times.type_inv)
     (simp (
-      x.ensures,
-      y.ensures,
-      z.ensures,
-      to_z-of_z,
-      c.ranges.k,
-      back w16 (item c.args.x c.args.s) c.y-1.given,
-      back w16 (item c.args.x 0) c.cleared_entry-arg-1.given,
-      back w16 (item c.args.x 1) c.cleared_entry-arg-2-1.given,
-      back w16 (item c.args.x 2) c.cleared_entry-arg-3-1.given,
-    ))
+      c.less_times.ensures,
+      to_z-of_z w32 c.args.k c.ranges.k,
+      to_z-of_z w16 _ (good_item w16 c.args.x good c.args.j.at),
+      to_z-of_z w16 _ (good_item w16 c.args.x good c.args.s.at),
+    ))))
+
+pub returns : goal.returns
+returns c = set_entry c.args.x c.well_formed.0.1.0.1 c.args.k c.args.s.at c.args.j.at _ (omega arith) (value c)

@@ -1,28 +1,20 @@
-use borrow.Author.Tests.{not-true, not-false}
-use mathlib.Core.Path.{◌≡◌, sym, ◌∙◌}
-use mathlib.Core.Bool.{true}
-use Rattle.definitions.specs.Limits.{in_range}
+-- `snf`: the verdict is that of the run.
+use Rattle.std.proofs.Common.{refl, sym, ◌∙◌, true}
 use Rattle.math_snf_laws.specs.Passes.{outside_refused, leaving_refused, staying_accepted}
+use Rattle.math_snf.specs.Step.{state_of, RanIn, LeftIn}
 use Rattle.math_snf.proofs.snf.Goals as goal
-use Rattle.math_snf.proofs.snf.Goals.{Else-not-in_range}
-
--- the matrix is in range
-is_in_range : (c : Else-not-in_range) → in_range c.args.m ≡ true
-is_in_range c = sym c.in_range.ensures ∙ c.if-not-in_range.false
 
 pub returns-then-not-in_range : goal.returns-then-not-in_range
-returns-then-not-in_range c =
-    rw c.refuse.ensures.value
-    (outside_refused c.args.m (sym c.in_range.ensures ∙ c.if-not-in_range.true), c.refuse.ensures.r_after)
+returns-then-not-in_range c = (outside_refused c.args.m (sym c.in_range.ensures ∙ c.if-not-in_range.true), c.write.ensures)
 
-pub returns-then-not-e : goal.returns-then-not-e
-returns-then-not-e c =
-    let y = c.run-e in
-    rw c.refuse-then-not-e.ensures.value
-    (leaving_refused y.ensures.ran.run (is_in_range (goal.at.returns-then-not-e c).Else-not-in_range) (y.ensures.ran.is_in_range ∙ not-true y.result.small c.if-not-e.true), c.refuse-then-not-e.ensures.r_after)
+pub returns-in-Ok : goal.returns-in-Ok
+returns-in-Ok c =
+    let y : RanIn c.args.m true c.in-Ok.field-0-1 (state_of c.in-Ok.t) = c.in-Ok.ensures in (
+      staying_accepted y.ran.run (sym c.in_range.ensures ∙ c.if-not-in_range.false) y.ran.is_in_range,
+      (y.ran.run, sym (y.ran.same_state refl) ∙ sym c.write-in-Ok.ensures),
+    )
 
-pub returns : goal.returns
-returns c =
-    let y = c.run-e in
-    let small = not-false y.result.small c.if-not-e.false in
-    (staying_accepted y.ensures.ran.run (is_in_range (goal.at.returns c).Else-not-in_range) (y.ensures.ran.is_in_range ∙ small), (y.ensures.ran.run, sym (y.ensures.ran.same_state small)))
+pub returns-in-Err : goal.returns-in-Err
+returns-in-Err c =
+    let y : LeftIn c.args.m c.in-Err.field-0 = c.in-Err.ensures in
+    (leaving_refused y.run (sym c.in_range.ensures ∙ c.if-not-in_range.false) y.leaves, c.write-in-Err.ensures)
