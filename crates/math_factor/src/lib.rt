@@ -3,9 +3,9 @@
 
 ghost use Rattle.std.specs.Prelude.{◌≡◌};
 ghost use Rattle.definitions.specs.Real as Real;
-ghost use Rattle.math_factor.specs.Factor.{HandedBack};
+ghost use Rattle.math_factor.specs.Factor.{handed_back};
 
-use definitions::Position;
+use definitions::{Basis, Position};
 use math_sqrt::sqrt;
 
 // the root of (x² + y²) + z²
@@ -15,9 +15,9 @@ pub fn norm(p: Position) -> f64
     sqrt(p.x * p.x + p.y * p.y + p.z * p.z)
 }
 
-// Row by row, from the lower triangle of g alone. False, and zeros, where a pivot is not above 0; a NaN is not.
-pub fn cholesky(g: [[f64; 3]; 3], l: &mut [[f64; 3]; 3]) -> bool
-    ensures { HandedBack (Real.cholesky g) result l.new }
+// Row by row, from the lower triangle of g alone. None where a pivot is not above 0; a NaN is not.
+pub fn cholesky(g: Basis) -> Option<Basis>
+    ensures { result ≡ handed_back (Real.cholesky g) }
 {
     let p0 = g[0][0];
     let l00 = sqrt(p0);
@@ -32,11 +32,7 @@ pub fn cholesky(g: [[f64; 3]; 3], l: &mut [[f64; 3]; 3]) -> bool
     let above1 = 0.0 < p1;
     let above2 = 0.0 < p2;
     if above0 & above1 & above2 {
-        let factor = [[l00, 0.0, 0.0], [l10, l11, 0.0], [l20, l21, l22]];
-        *l = factor;
-        return true;
+        return Some([[l00, 0.0, 0.0], [l10, l11, 0.0], [l20, l21, l22]]);
     }
-    let zeros = [[0.0; 3]; 3];
-    *l = zeros;
-    false
+    None
 }

@@ -1,12 +1,12 @@
 -- Definitions of this crate: those of functions for which the definitions have no name, and what each function on a row
 -- gives.
-use Rattle.std.specs.Prelude.{ℕ, ◌≡◌, refl, Bool, true, false, ◌&&◌, List, [], ◌∷◌, get_or, ℤ, pos, Float}
+use Rattle.std.specs.Prelude.{ℕ, ◌≡◌, refl, Bool, true, false, ◌&&◌, List, [], ◌∷◌, get_or, pos, Float}
 use Rattle.std.proofs.Common.{◌∙◌}
 use Rattle.std.specs.Float.{nan, binary64}
 use Rattle.std.specs.Float.Ieee.{neg, add, div}
 use Rattle.definitions.specs.Lists.{all}
-use Rattle.definitions.specs.Matrix.{mat}
-use Rattle.definitions.specs.Real.{RealMatrix, at_f, row_sum, minor_f, is_finite, real_of}
+use Rattle.definitions.specs.Matrix.{Matrix, mat}
+use Rattle.definitions.specs.Real.{RealMatrix, at_f, row_sum, minor_f, is_finite, real_of, real}
 
 abbrev pub item : List Float → ℕ → Float
 item r j = get_or r j nan
@@ -66,6 +66,13 @@ cross_over u v d =
     ∷ div binary64 (minor_f (item u 0) (item v 1) (item u 1) (item v 0)) d
     ∷ []
 
--- whole numbers as floats
-abbrev pub real_row : List ℤ → List Float
-real_row r = three (λ j. real_of (get_or r j (pos 0)))
+-- entries as floats, each by f; z is what a row has past its end
+abbrev pub real_row : {A : Type 0} → (A → Float) → A → List A → List Float
+real_row f z r = three (λ j. f (get_or r j z))
+
+-- of whole numbers, by `real_of`, this is `real`
+abbrev pub real_by : {A : Type 0} → (A → Float) → A → List (List A) → RealMatrix
+real_by f z m = mat (λ i j. f (get_or (get_or m i []) j z))
+
+pub real_by_lem : (m : Matrix) → real_by real_of (pos 0) m ≡ real m
+real_by_lem m = refl

@@ -41,8 +41,9 @@ pub fn inverse(m: Basis) -> Basis
 {
     let d = determinant(m);
     let t = matrix::transpose(m);
-    let r0 = cross_over(t[1], t[2], d);
-    let r1 = cross_over(t[2], t[0], d);
-    let r2 = cross_over(t[0], t[1], d);
-    [r0, r1, r2]
+    [
+        cross_over(t[1], t[2], d),
+        cross_over(t[2], t[0], d),
+        cross_over(t[0], t[1], d),
+    ]
 }

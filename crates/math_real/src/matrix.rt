@@ -19,13 +19,11 @@ fn row_times(a: [f64; 3], b: Basis) -> [f64; 3]
     ]
 }
 
+// Three calls: by the array's `map`, whose closure holds b, the proof did not close; so at `divide`.
 pub fn product(a: Basis, b: Basis) -> Basis
     ensures { result ≡ mul_f a b }
 {
-    let r0 = row_times(a[0], b);
-    let r1 = row_times(a[1], b);
-    let r2 = row_times(a[2], b);
-    [r0, r1, r2]
+    [row_times(a[0], b), row_times(a[1], b), row_times(a[2], b)]
 }
 
 pub fn transpose(m: Basis) -> Basis
@@ -47,10 +45,11 @@ fn row_sum(a: [f64; 3], b: [f64; 3]) -> [f64; 3]
 pub fn sum(a: Basis, b: Basis) -> Basis
     ensures { result ≡ add_m a b }
 {
-    let r0 = row_sum(a[0], b[0]);
-    let r1 = row_sum(a[1], b[1]);
-    let r2 = row_sum(a[2], b[2]);
-    [r0, r1, r2]
+    [
+        row_sum(a[0], b[0]),
+        row_sum(a[1], b[1]),
+        row_sum(a[2], b[2]),
+    ]
 }
 
 fn divide_row(a: [f64; 3], by: f64) -> [f64; 3]
@@ -62,43 +61,33 @@ fn divide_row(a: [f64; 3], by: f64) -> [f64; 3]
 pub fn divide(m: Basis, by: f64) -> Basis
     ensures { result ≡ divide_m m by }
 {
-    let r0 = divide_row(m[0], by);
-    let r1 = divide_row(m[1], by);
-    let r2 = divide_row(m[2], by);
-    [r0, r1, r2]
+    [
+        divide_row(m[0], by),
+        divide_row(m[1], by),
+        divide_row(m[2], by),
+    ]
 }
 
 pub fn negate_third_row(m: Basis) -> Basis
     ensures { result ≡ negate_third_row m }
 {
-    let third = [-m[2][0], -m[2][1], -m[2][2]];
-    [m[0], m[1], third]
+    [m[0], m[1], [-m[2][0], -m[2][1], -m[2][2]]]
 }
 
-// between the two infinities, which no NaN is
 fn finite(x: f64) -> bool
     ensures { result ≡ is_finite x }
 {
-    let infinity = f64::from_bits(0x7FF0_0000_0000_0000);
-    let above = -infinity < x;
-    let below = x < infinity;
-    above & below
+    x.is_finite()
 }
 
 fn row_finite(a: [f64; 3]) -> bool
     ensures { result ≡ finite_row a }
 {
-    let x = finite(a[0]);
-    let y = finite(a[1]);
-    let z = finite(a[2]);
-    x & y & z
+    a.iter().all(|x| finite(*x))
 }
 
 pub fn all_finite(m: Basis) -> bool
     ensures { result ≡ all_finite m }
 {
-    let x = row_finite(m[0]);
-    let y = row_finite(m[1]);
-    let z = row_finite(m[2]);
-    x & y & z
+    m.iter().all(|row| row_finite(*row))
 }

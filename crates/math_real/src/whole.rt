@@ -1,56 +1,63 @@
 // Matrices of whole numbers as floats, and the inverse of one: exact cofactors, then one division an entry.
-ghost use Rattle.std.specs.Prelude.{◌≡◌};
-ghost use Rattle.definitions.specs.Real as Real;
-ghost use Rattle.definitions.specs.Real.{inverse_of_c};
-ghost use Rattle.math_real.specs.Rows.{real_row};
+ghost use Rattle.std.specs.Prelude.{◌≡◌, Float, pos};
+ghost use Rattle.definitions.specs.Real.{inverse_of_c, real_of};
+ghost use Rattle.math_real.specs.Rows.{real_row, real_by};
 
 use crate::matrix;
-use definitions::{Basis, Cofactors, Linear, Rotation, SnfMatrix};
+use definitions::{Basis, Linear};
 use math_matrix::{adjugate, determinant, widened};
 
-fn real_row(r: [i8; 3]) -> [f64; 3]
-    ensures { result ≡ real_row r }
-{
-    [r[0] as f64, r[1] as f64, r[2] as f64]
+// A whole number of some width: the float that it is, and what a matrix of them has outside of its rows.
+pub trait Whole: Copy {
+    ghost real: { Self → Float };
+
+    ghost outside: { Self };
+
+    fn real(self) -> f64
+        ensures { result ≡ real self };
 }
 
-pub fn real(m: Rotation) -> Basis
-    ensures { result ≡ Real.real m }
-{
-    let r0 = real_row(m[0]);
-    let r1 = real_row(m[1]);
-    let r2 = real_row(m[2]);
-    [r0, r1, r2]
+impl Whole for i8 {
+    ghost real = { real_of };
+
+    ghost outside = { pos 0 };
+
+    fn real(self) -> f64 {
+        f64::from(self)
+    }
 }
 
-fn real16_row(r: [i16; 3]) -> [f64; 3]
-    ensures { result ≡ real_row r }
-{
-    [r[0] as f64, r[1] as f64, r[2] as f64]
+impl Whole for i16 {
+    ghost real = { real_of };
+
+    ghost outside = { pos 0 };
+
+    fn real(self) -> f64 {
+        f64::from(self)
+    }
 }
 
-pub fn real16(m: SnfMatrix) -> Basis
-    ensures { result ≡ Real.real m }
-{
-    let r0 = real16_row(m[0]);
-    let r1 = real16_row(m[1]);
-    let r2 = real16_row(m[2]);
-    [r0, r1, r2]
+impl Whole for i32 {
+    ghost real = { real_of };
+
+    ghost outside = { pos 0 };
+
+    fn real(self) -> f64 {
+        f64::from(self)
+    }
 }
 
-fn real32_row(r: [i32; 3]) -> [f64; 3]
-    ensures { result ≡ real_row r }
+fn real_row<T: Whole>(r: [T; 3]) -> [f64; 3]
+    ensures { result ≡ real_row T.real T.outside r }
 {
-    [r[0] as f64, r[1] as f64, r[2] as f64]
+    [r[0].real(), r[1].real(), r[2].real()]
 }
 
-pub fn real32(m: Cofactors) -> Basis
-    ensures { result ≡ Real.real m }
+// of whole numbers of 8, 16 or 32 bits the matrix that `Real.real` says
+pub fn real<T: Whole>(m: [[T; 3]; 3]) -> Basis
+    ensures { result ≡ real_by T.real T.outside m }
 {
-    let r0 = real32_row(m[0]);
-    let r1 = real32_row(m[1]);
-    let r2 = real32_row(m[2]);
-    [r0, r1, r2]
+    [real_row(m[0]), real_row(m[1]), real_row(m[2])]
 }
 
 pub fn inverse_of_c(c: Linear) -> Basis
@@ -58,6 +65,6 @@ pub fn inverse_of_c(c: Linear) -> Basis
 {
     let m = widened(c);
     let d = determinant(m) as f64;
-    let a = real32(adjugate(m));
+    let a = real(adjugate(m));
     matrix::divide(a, d)
 }

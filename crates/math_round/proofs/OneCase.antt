@@ -1,11 +1,9 @@
 -- Each float is in just one of the cases, and is settled by just one step.
-use Rattle.std.specs.Prelude.{ℕ, suc, ◌*◌, ◌/◌, ◌%◌, ◌^◌, ◌≤◌, ◌<◌, ◌≡◌, refl, ◌⊎◌, T, Float}
+use Rattle.std.specs.Prelude.{ℕ, suc, ◌*◌, ◌/◌, ◌%◌, ◌^◌, ◌≤◌, ◌<◌, ◌≡◌, refl, ◌⊎◌, T, Float, Option, None, Some}
 use Rattle.std.proofs.Common.{inl, inr, arith, lt_of_not-le, lit<, pow_pos}
 use Rattle.std.proofs.Math.Decide.{dec_le}
 use Rattle.std.specs.Float.{nan, inf, fin}
 use Rattle.definitions.specs.Real.{units_of, is_finite}
-use Rattle.math_round.specs.declared.cases.Step.{Step}
-use Rattle.math_round.specs.declared.cases.Step.TheVariants.{Settled, Open}
 use Rattle.math_round.specs.Cases.{Special, Nearest, Tie, StepOf, JustOne, special_not_nearest, above_zero, special_not_tie, not_both, rest_below, rest_above, rest-half, compared, IsSettled}
 
 -- ---- just one
@@ -60,17 +58,17 @@ just_one x =
 
 -- ---- settled by just one
 
-by_its_case : (A : Type 0) (x : Float) (t : Step) → StepOf A x t → IsSettled t → A
-by_its_case A x (Settled r) h s = h.0
-by_its_case A x Open h s = absurd s
+by_its_case : (A : Type 0) (x : Float) (t : Option Float) → StepOf A x t → IsSettled t → A
+by_its_case A x (Some r) h s = h.0
+by_its_case A x None h s = absurd s
 
-settles_its_case : (A : Type 0) (x : Float) (t : Step) → StepOf A x t → A → IsSettled t
-settles_its_case A x (Settled r) h a = tt
-settles_its_case A x Open h a = absurd (h a)
+settles_its_case : (A : Type 0) (x : Float) (t : Option Float) → StepOf A x t → A → IsSettled t
+settles_its_case A x (Some r) h a = tt
+settles_its_case A x None h a = absurd (h a)
 
 -- "each f64 that rounding takes is settled by just one of the three": of the steps' own contracts
 pub settled_by_just_one :
-    (x : Float) (a b c : Step) → StepOf (Special x) x a → StepOf (Nearest x) x b → StepOf (Tie x) x c →
+    (x : Float) (a b c : Option Float) → StepOf (Special x) x a → StepOf (Nearest x) x b → StepOf (Tie x) x c →
     JustOne (IsSettled a) (IsSettled b) (IsSettled c)
 settled_by_just_one x a b c p q r =
     record {

@@ -1,12 +1,10 @@
 -- The cases of rounding to a whole number, in the order of IEEE 754's text: special values, nearest, then the tie. That
 -- each float is in just one of them stands in proofs/OneCase.antt.
-use Rattle.std.specs.Prelude.{ℕ, suc, ◌+◌, ◌*◌, ◌-◌, ◌/◌, ◌%◌, ◌^◌, ◌≤◌, ◌<◌, ◌≡◌, false, ◌⊎◌, T, Float}
+use Rattle.std.specs.Prelude.{ℕ, suc, ◌+◌, ◌*◌, ◌-◌, ◌/◌, ◌%◌, ◌^◌, ◌≤◌, ◌<◌, ◌≡◌, false, ◌⊎◌, T, Float, Option, None, Some}
 use Rattle.std.proofs.Common.{sym, ap, ◌∙◌, subst, inl, inr, arith, le_antisymm, lt_of_not-le, mod-lt, mul-le-mul_right, mul-lt-mul_of_pos_right, lt_of_mul-lt-mul_right, pow_pos}
 use Rattle.std.proofs.Math.Nat.{mod-add-div'}
 use Rattle.std.proofs.Math.Decide.{dec_le}
 use Rattle.definitions.specs.Real.{units_of, is_finite, round_away}
-use Rattle.math_round.specs.declared.cases.Step.{Step}
-use Rattle.math_round.specs.declared.cases.Step.TheVariants.{Settled, Open}
 
 -- ---- the cases
 
@@ -36,10 +34,10 @@ pub record Tie (x : Float) : Type 0 where
   pub n : ℕ
   pub half_way : HalfWay (2 ^ 1074) (units_of x) n
 
--- what the step of the case A says of x: settled where A is so, with what x is rounded to; where it is not, open
-abbrev pub StepOf : Type 0 → Float → Step → Type 0
-StepOf A x (Settled r) = A × (r ≡ round_away x)
-StepOf A x Open = A → ⊥
+-- what the step of the case A says of x: what x is rounded to where A is so; where it is not, nothing
+abbrev pub StepOf : Type 0 → Float → Option Float → Type 0
+StepOf A x (Some r) = A × (r ≡ round_away x)
+StepOf A x None = A → ⊥
 
 -- ---- just one
 
@@ -99,9 +97,9 @@ compared a b = by (dec_le b a) (dec_le a b)
 
 -- ---- settled by just one
 
-abbrev pub IsSettled : Step → Type 0
-IsSettled (Settled r) = Unit {0}
-IsSettled Open = ⊥
+abbrev pub IsSettled : Option Float → Type 0
+IsSettled (Some r) = Unit {0}
+IsSettled None = ⊥
 
 -- ---- the cases by distances
 

@@ -9,24 +9,15 @@ mod pattern;
 ghost use Rattle.std.specs.Prelude.{◌≡◌};
 ghost use Rattle.definitions.specs.Real.{round_away, IsRound};
 
-use crate::cases::{Step, nearest, special, tie};
+use crate::cases::{nearest, special, tie};
 
+// Each float is in one of the three cases, so one of the steps settles it.
 pub fn round(x: f64) -> f64
     ensures value { result ≡ round_away x }
     ensures nearest { IsRound x result }
 {
-    let first = special(x);
-    if let Step::Settled(r) = first {
-        return r;
-    }
-    let second = nearest(x);
-    if let Step::Settled(r) = second {
-        return r;
-    }
-    let third = tie(x);
-    match third {
-        Step::Settled(r) => r,
-        // no float gets here: each is in one of the three cases
-        Step::Open => x,
-    }
+    special(x)
+        .or_else(|| nearest(x))
+        .or_else(|| tie(x))
+        .unwrap()
 }

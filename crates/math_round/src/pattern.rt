@@ -61,17 +61,17 @@ fn split(bits: u64) -> Parts
         sign: bits / SIGN,
         whole: digits >> p,
         rest: digits % one,
-        one: one,
+        one,
     }
 }
 
 pub(crate) fn measured(x: f64) -> Magnitude
     ensures { Measures x result }
 {
-    if x != x {
+    if x.is_nan() {
         return Magnitude::Special;
     }
-    let bits = f64::to_bits(x);
+    let bits = x.to_bits();
     // the pattern without the sign is ordered as magnitudes are
     let size = bits % SIGN;
     if size == 0 {
@@ -93,5 +93,5 @@ pub(crate) fn signed_whole(n: u64, sign: u64) -> f64
     ensures { result ≡ Ieee.round binary64 (eqb sign 1) n 1 }
 {
     let size = (n as i64) as f64;
-    f64::from_bits(f64::to_bits(size) + sign * SIGN)
+    f64::from_bits(size.to_bits() + sign * SIGN)
 }

@@ -7,6 +7,23 @@ ghost use Rattle.std.specs.Prelude.{◌≡◌, ◌+◌, ◌*◌, ◌≤◌, ◌<
 ghost use Rattle.definitions.specs.Real.{IsSqrt, root_cut, root_pattern, root_of_fields, sqrt as sqrt_f};
 ghost use Rattle.math_sqrt.specs.Root.{IsRoot, Cut};
 
+// 2^26, the least whole number of 27 digits
+const LEAST: u64 = 0x0400_0000;
+
+// 2^27, above all of 27 digits
+const ABOVE: u64 = 0x0800_0000;
+
+// 2^52: the first of a float's 53 digits, and the last bit of the exponent's field
+const FIRST: u64 = 0x0010_0000_0000_0000;
+
+// the bit of the sign
+const SIGN: u64 = 0x8000_0000_0000_0000;
+
+const INFINITY: u64 = 0x7FF0_0000_0000_0000;
+
+// a root has a float's 53, and one more to round by
+const DIGITS: u64 = 54;
+
 // the root of the digits so far, cut, and what is left
 #[derive(Clone, Copy)]
 struct Root {
@@ -40,28 +57,26 @@ fn root_digits(w: u64) -> u64
 {
     let mut a = Root { q: 0, rem: 0 };
     let mut rest = w;
-    let mut i: u64 = 0;
-    while i < 54 {
-        a = root_step(a, rest / 4503599627370496);
-        rest = rest % 4503599627370496 * 4;
-        i += 1;
+    for _ in 0..DIGITS {
+        a = root_step(a, rest / FIRST);
+        rest = rest % FIRST * 4;
     }
     a.q
 }
 
 // one step of Heron's method towards the root of 2h; of the guess nothing is proved, as `root_guessed` tries it
 fn heron(h: f64, a: f64) -> f64 {
-    0.5f64 * a + h / a
+    0.5 * a + h / a
 }
 
 // 27 digits of a float from 1 to 2; of any other float some 27 digits
 fn first_digits(g: f64) -> u64
     ensures { (2 ^ 26 ≤ result) × (result < 2 ^ 27) }
 {
-    if g < 2.0f64 {
-        return 67108864 + f64::to_bits(g) % 4503599627370496 / 67108864;
+    if g < 2.0 {
+        return LEAST + g.to_bits() % FIRST / LEAST;
     }
-    134217727
+    ABOVE - 1
 }
 
 // a guess at the 27 digits of w's root, for a w from 2^52: a hair too high, lest the root of a square come out one too
@@ -70,9 +85,9 @@ fn guess_half(w: u64) -> u64
     requires { w < 2 ^ 54 }
     ensures { (2 ^ 26 ≤ result) × (result < 2 ^ 27) }
 {
-    let h = (w / 2) as f64 / 4503599627370496.0f64;
-    let a = heron(h, heron(h, 0.6862915f64 * (1.0f64 + h)));
-    first_digits(heron(h * 1.0000000000004f64, a))
+    let h = (w / 2) as f64 / 4503599627370496.0;
+    let a = heron(h, heron(h, 0.6862915 * (1.0 + h)));
+    first_digits(heron(h * 1.0000000000004, a))
 }
 
 // from the first 27 digits s of the root, and what is left, the other 27
@@ -80,10 +95,10 @@ fn second_half(s: u64, r: u64) -> u64
     requires { (2 ^ 26 ≤ s) × (s < 2 ^ 27) × (r ≤ 2 * s) }
     ensures { Cut ((s * s + r) * 4 ^ 27) result }
 {
-    let v = r * 67108864;
+    let v = r * LEAST;
     let d = v / s;
-    let q = s * 134217728 + d;
-    if d * d <= v % s * 268435456 {
+    let q = s * ABOVE + d;
+    if d * d <= v % s * (2 * ABOVE) {
         return q;
     }
     q - 1
@@ -112,7 +127,7 @@ fn root_pattern(t: u64, y: u64) -> u64
     ensures upper_bound { result < 0x7FF0000000000000 }
 {
     let q = root_guessed(t * (y % 2 + 1));
-    (y / 2 - 26) * 4503599627370496 + (q + 1) / 2
+    (y / 2 - 26) * FIRST + (q + 1) / 2
 }
 
 // by the two fields; the digits of a subnormal are moved up until the first stands at 2^52
@@ -122,10 +137,10 @@ fn root_of_fields(x: u64, t: u64) -> u64
     ensures upper_bound { result < 0x7FF0000000000000 }
 {
     if x == 0 {
-        let s = u64::leading_zeros(t) as u64 - 11;
+        let s = u64::from(t.leading_zeros()) - 11;
         return root_pattern(t << s, 1074 - s);
     }
-    root_pattern(4503599627370496 + t, x + 1073)
+    root_pattern(FIRST + t, x + 1073)
 }
 
 // IEEE 754's square root, rounded to nearest
@@ -133,18 +148,18 @@ pub fn sqrt(x: f64) -> f64
     ensures value { result ≡ sqrt_f x }
     ensures nearest { IsSqrt x result }
 {
-    if x != x {
+    if x.is_nan() {
         return x;
     }
-    let b = f64::to_bits(x);
-    if b % 9223372036854775808 == 0 {
+    let b = x.to_bits();
+    if b % SIGN == 0 {
         return x;
     }
-    if 9223372036854775808 <= b {
-        return 0.0f64 / 0.0f64;
+    if SIGN <= b {
+        return f64::NAN;
     }
-    if 9218868437227405312 <= b {
+    if INFINITY <= b {
         return x;
     }
-    f64::from_bits(root_of_fields(b / 4503599627370496, b % 4503599627370496))
+    f64::from_bits(root_of_fields(b / FIRST, b % FIRST))
 }

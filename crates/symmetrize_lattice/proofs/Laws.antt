@@ -1,92 +1,66 @@
--- Tests joined as the conditions have them, the sum over rotations turn by turn, and the cases of a factor.
-use Prim.Native.Nat.{ℕ, ◌+◌, ◌≤◌, ◌<◌}
-use mathlib.Core.Path.{◌≡◌, refl, sym, ap, subst, ◌∙◌}
+-- The cases of a factor, and each verdict by the tests before it.
+use Prim.Native.Nat.{ℕ}
+use mathlib.Core.Path.{◌≡◌, refl, sym, ap, ◌∙◌}
 use mathlib.Core.Bool.{Bool, true, false, not, cond, ◌&&◌, ◌||◌}
-use mathlib.Core.List.{List, map, foldl}
-use mathlib.Core.Option.{Option, none, some}
-use native.Mathlib.Numerals.{add-one}
-use lib.ListN.{length, get_or, drop, drop_of_length-le}
-use lib.Seq.{drop-cons}
-use lib.Ieee.{lt, eq}
-use lib.Dec.{T}
+use mathlib.Core.List.{List}
+use mathlib.Core.Option as Math
+use lib.ListN.{length}
+use lib.Ieee.{eq}
 use Rattle.laws.specs.Tests.{without}
-use Rattle.definitions.specs.declared.Verdict.{Verdict}
 use Rattle.definitions.specs.declared.Verdict.TheVariants.{Accepted, Refused}
 use Rattle.definitions.specs.Lists.{all}
 use Rattle.definitions.specs.Refusal.{Checked}
 use Rattle.laws.specs.Verdicts.{untested, is_true, is_false, TestedAll, verdict_of, checked}
 use Rattle.definitions.specs.Calls.{lattice_conditions}
 use Rattle.definitions.specs.Matrix.{Matrix}
-use Rattle.definitions.specs.Real.{RealMatrix, zero_f, at_f, transpose_f, det_f, is_finite, cholesky}
-use Rattle.definitions.specs.Symmetrization.{conventional_basis, new_basis, mean_metric, factor_fails, basis_or, lattice_fails, symmetrized_basis, deformation}
+use Rattle.definitions.specs.Real.{RealMatrix, zero_f, at_f, det_f, is_finite, cholesky}
+use Rattle.definitions.specs.Symmetrization.{conventional_basis, new_basis, mean_metric, factor_fails, basis_or, lattice_fails, symmetrized_basis, deformation, new_of}
 use Rattle.definitions.specs.Limits.{not_some, in_range, within, not_unimodular, bad_copies}
-use Rattle.math_real.specs.Rows.{negate_third_row, all_finite_lem}
-use Rattle.math_factor.specs.Factor.{HandedBack, is_some, or_zeros}
-use Rattle.symmetrize_lattice.specs.Lattice.{deforms, if_accepted}
-
--- ---- sums
-
-module _ {A B C : Type 0} (f : A → B → A) (g : C → B) (a : A) (l : List C) (i : ℕ) where
-  pub fold_step : (d : C) → i < length l → foldl f a (map g (drop i l)) ≡ foldl f (f a (g (get_or l i d))) (map g (drop (i + 1) l))
-  fold_step d h = rw (add-one, drop-cons l i d)
-
-  pub fold_end : length l ≤ i → foldl f a (map g (drop i l)) ≡ a
-  fold_end h = rw (drop_of_length-le l h)
+use Rattle.math_real.specs.Rows.{all_finite_lem}
+use Rattle.std.specs.Prelude.{Option, None, Some, Result, Ok, Err, IfOk, IfErr}
+use Rattle.std.specs.Option.{ok_or}
+use Rattle.math_factor.specs.Factor.{handed_back}
+use Rattle.symmetrize_lattice.specs.Lattice.{deforms, symmetrized}
 
 -- ---- the new basis
 
-module _ (old l : RealMatrix) where
-  pub negated : lt (det_f old) zero_f ≡ true → negate_third_row (transpose_f l) ≡ new_basis old l
-  negated e = simp e
-
-  pub not_negated : lt (det_f old) zero_f ≡ false → transpose_f l ≡ new_basis old l
-  not_negated e = simp e
-
 module _ (old : RealMatrix) where
-  -- the definition's three cases of 12, as the code joins them
-  not_fails : (o : Option RealMatrix) → (is_some o && deforms old (new_basis old (or_zeros o))) ≡ not (factor_fails old o)
+  good : (l : RealMatrix) → deforms old (new_basis old l) ≡ not (factor_fails old (Math.some l))
   unfolding all
-  not_fails none = refl
-  not_fails (some l) =
+  good l =
       ap (λ (b : Bool). not (eq (det_f old) zero_f) && b) (sym (all_finite_lem (at_f (deformation old l)))) ∙ without (eq (det_f old) zero_f) (all (all is_finite) (deformation old l))
 
-  is_basis : (o : Option RealMatrix) → (is_some o && deforms old (new_basis old (or_zeros o))) ≡ true → new_basis old (or_zeros o) ≡ basis_or old o
-  is_basis none e = absurd (subst T (sym e) tt)
-  is_basis (some l) e = refl
+  -- the definition's three cases of 12, as the code comes to them
+  picked : Math.Option RealMatrix → Option RealMatrix
+  picked o = cond (factor_fails old o) None (Some (basis_or old o))
 
-  module _ (rs : List Matrix) (g f b : RealMatrix) (r q : Bool) (mean : g ≡ mean_metric old rs) (factor : HandedBack (cholesky g) r f) (basis : b ≡ new_basis old f) (deform : q ≡ deforms old b) where
-    abbrev found : Option RealMatrix
-    found = cholesky (mean_metric old rs)
+  no_factor : (o : Math.Option RealMatrix) → None ≡ handed_back o → None ≡ picked o
+  unfolding picked
+  no_factor Math.none e = refl
+  no_factor (Math.some l) e = cc
 
-    factored : f ≡ or_zeros found
-    factored = factor.value ∙ ap (λ (m : RealMatrix). or_zeros (cholesky m)) mean
+  by_factor : (o : Math.Option RealMatrix) (l b : RealMatrix) (q : Bool) → Some l ≡ handed_back o → b ≡ new_basis old l → q ≡ deforms old b → cond q (Some b) None ≡ picked o
+  unfolding picked
+  by_factor Math.none l b q e h d = cc
+  by_factor (Math.some m) l b q e h d =
+      let k : l ≡ m = cc in
+      let n : b ≡ new_basis old m = h ∙ ap (new_basis old) k in
+      by (factor_fails old (Math.some m)) (d ∙ ap (deforms old) n ∙ good m) n
+    where
+      by : (f : Bool) → q ≡ not f → b ≡ new_basis old m → cond q (Some b) None ≡ cond f None (Some (new_basis old m))
+      by true e n = rw e refl
+      by false e n = rw e (ap Some n)
 
-    there : r ≡ is_some found
-    there = factor.there ∙ ap (λ (m : RealMatrix). is_some (cholesky m)) mean
+  module _ (rs : List Matrix) (g : RealMatrix) (mean : g ≡ mean_metric old rs) where
+    pub without_factor : None ≡ handed_back (cholesky g) → None ≡ symmetrized old rs
+    unfolding picked lattice_fails symmetrized_basis
+    without_factor e = no_factor (cholesky (mean_metric old rs)) (e ∙ ap (λ (m : RealMatrix). handed_back (cholesky m)) mean)
 
-    tested : (r && q) ≡ (is_some found && deforms old (new_basis old (or_zeros found)))
-    tested = λ i. there i && (deform ∙ ap (deforms old) (basis ∙ ap (new_basis old) factored)) i
-
-    pub accepts : (r && q) ≡ true → (true ≡ not (lattice_fails old rs)) × (b ≡ symmetrized_basis old rs)
-    unfolding lattice_fails symmetrized_basis
-    accepts e = (sym (sym tested ∙ e) ∙ not_fails found, basis ∙ ap (new_basis old) factored ∙ is_basis found (sym tested ∙ e))
-
-    pub refuses : (r && q) ≡ false → false ≡ not (lattice_fails old rs)
-    unfolding lattice_fails
-    refuses e = sym (sym tested ∙ e) ∙ not_fails found
+    pub with_factor : (l b : RealMatrix) (q : Bool) → Some l ≡ handed_back (cholesky g) → b ≡ new_basis old l → q ≡ deforms old b → cond q (Some b) None ≡ symmetrized old rs
+    unfolding picked lattice_fails symmetrized_basis
+    with_factor l b q e h d = by_factor (cholesky (mean_metric old rs)) l b q (e ∙ ap (λ (m : RealMatrix). handed_back (cholesky m)) mean) h d
 
 -- ---- verdicts
-
-module _ {A : Type 0} (r : Bool) (m a z : A) (e : m ≡ cond r a z) where
-  pub when_true : r ≡ true → m ≡ a
-  when_true t = rw t at e
-
-  pub when_false : r ≡ false → m ≡ z
-  when_false t = rw t at e
-
-pub same_if : (f : RealMatrix → RealMatrix) (v : Verdict) (m n : RealMatrix) → m ≡ if_accepted v n → if_accepted v (f m) ≡ if_accepted v (f n)
-same_if f Accepted m n e = ap f e
-same_if f (Refused k) m n e = refl
 
 module _ (l : RealMatrix) (t c : Matrix) (rs : List Matrix) where
   abbrev pub bad_count : Bool
@@ -131,3 +105,16 @@ module _ (l : RealMatrix) (t c : Matrix) (rs : List Matrix) where
           pub accepted : fails ≡ false → Checked (lattice_conditions l t c rs) Accepted
           unfolding verdict_of TestedAll
           accepted f = checked (lattice_conditions l t c rs) (is_false a, (is_false b, (is_false d, (is_false e, (is_false f, tt))))) Accepted refl
+
+          -- the last test: refused with 12, or the new basis
+          pub by_last : (r : Result RealMatrix ℕ) → r ≡ ok_or (symmetrized (conventional_basis l t c) rs) 12 →
+              IfOk r (λ m. Checked (lattice_conditions l t c rs) Accepted × (m ≡ new_of l t c rs)) × IfErr r (λ k. Checked (lattice_conditions l t c rs) (Refused k))
+          by_last r h = at fails refl
+            where
+              at : (f : Bool) → fails ≡ f → IfOk r (λ m. Checked (lattice_conditions l t c rs) Accepted × (m ≡ new_of l t c rs)) × IfErr r (λ k. Checked (lattice_conditions l t c rs) (Refused k))
+              at true e =
+                  let k : r ≡ Err 12 = h ∙ ap (λ (f : Bool). ok_or (cond f None (Some (new_of l t c rs))) 12) e in
+                  rw k (tt, refused_12 e)
+              at false e =
+                  let k : r ≡ Ok (new_of l t c rs) = h ∙ ap (λ (f : Bool). ok_or (cond f None (Some (new_of l t c rs))) 12) e in
+                  rw k ((accepted e, refl), tt)

@@ -2,23 +2,22 @@
 // symmetrize/symmetrization.rs), with the lattice's part of base/transformation.rs.
 #![tactic(auto)]
 
-ghost use Rattle.std.specs.Prelude.{◌≤◌, ◌≡◌, not, cond, ◌||◌, length};
+ghost use Rattle.std.specs.Prelude.{◌≤◌, ◌≡◌, not, ◌||◌, length, IfOk, IfErr};
 ghost use Rattle.definitions.specs.Lists.{all};
 ghost use Rattle.definitions.specs.Refusal.{Checked};
 ghost use Rattle.definitions.specs.Calls.{lattice_conditions, LatticePromise};
 ghost use Rattle.definitions.specs.Symmetrization as Symmetrization;
 ghost use Rattle.definitions.specs.Symmetrization.{conventional_basis, mean_metric, new_basis};
-ghost use Rattle.definitions.specs.Symmetrization.{lattice_fails, symmetrized_basis, new_of};
+ghost use Rattle.definitions.specs.Symmetrization.{new_of};
 ghost use Rattle.definitions.specs.Limits.{in_range, not_unimodular, bad_copies};
-ghost use Rattle.symmetrize_lattice.specs.Lattice.{if_accepted};
-ghost use Rattle.symmetrize_lattice.specs.Lattice.{zeros, turned, total_metric, deforms};
+ghost use Rattle.symmetrize_lattice.specs.Lattice.{turned, total_metric, deforms, symmetrized};
 
 use checks::{all_in_range, good_copies, in_range, is_some_count, lattice_within, unimodular};
 use definitions::{Basis, Linear, Rotation, Verdict, refusal};
 use math_factor::cholesky;
 use math_real::{inverse, matrix, whole};
 
-const ZEROS: Basis = [[0.0, 0.0, 0.0], [0.0, 0.0, 0.0], [0.0, 0.0, 0.0]];
+const ZEROS: Basis = [[0.0; 3]; 3];
 
 // the basis of columns l times T, then C
 fn conventional_basis(l: Basis, t: Linear, c: Linear) -> Basis
@@ -47,13 +46,9 @@ fn total_metric(g: Basis, rotations: &[Rotation]) -> Basis
     ensures { result ≡ total_metric g rotations.now }
 {
     let mut total = ZEROS;
-    let mut i: usize = 0;
-    while i < rotations.len() {
-        let rotation = rotations[i];
-        let t = turned_metric(g, rotation);
-        let next = matrix::sum(total, t);
+    for rotation in rotations {
+        let next = matrix::sum(total, turned_metric(g, *rotation));
         total = next;
-        i += 1;
     }
     total
 }
@@ -62,9 +57,7 @@ fn mean_metric(old: Basis, rotations: &[Rotation]) -> Basis
     requires { length rotations.now ≤ 96 }
     ensures { result ≡ mean_metric old rotations.now }
 {
-    let total = total_metric(metric(old), rotations);
-    let count = rotations.len() as f64;
-    matrix::divide(total, count)
+    matrix::divide(total_metric(metric(old), rotations), rotations.len() as f64)
 }
 
 // the transposed factor, its third row negated if the old basis is left-handed
@@ -72,8 +65,7 @@ fn new_basis(old: Basis, factor: Basis) -> Basis
     ensures { result ≡ new_basis old factor }
 {
     let upper = matrix::transpose(factor);
-    let d = inverse::determinant(old);
-    if d < 0.0 {
+    if inverse::determinant(old) < 0.0 {
         return matrix::negate_third_row(upper);
     }
     upper
@@ -89,74 +81,51 @@ fn good_deformation(old: Basis, new: Basis) -> bool
     !singular & finite
 }
 
-// False, and zeros, where 12 applies.
-fn symmetrized(old: Basis, rotations: &[Rotation], new: &mut Basis) -> bool
+// None where 12 applies.
+fn symmetrized(old: Basis, rotations: &[Rotation]) -> Option<Basis>
     requires { length rotations.now ≤ 96 }
-    ensures value { result ≡ not (lattice_fails old rotations.now) }
-    ensures after { new.new ≡ cond result (symmetrized_basis old rotations.now) zeros }
+    ensures { result ≡ symmetrized old rotations.now }
 {
-    let g = mean_metric(old, rotations);
-    let found = cholesky(g, new);
-    let factor = *new;
+    let factor = cholesky(mean_metric(old, rotations))?;
     let basis = new_basis(old, factor);
-    let good = good_deformation(old, basis);
-    if found & good {
-        *new = basis;
-        return true;
+    if good_deformation(old, basis) {
+        return Some(basis);
     }
-    *new = ZEROS;
-    false
+    None
 }
 
 fn entries_in_range(t: Linear, c: Linear, rotations: &[Rotation]) -> bool
     ensures { result ≡ not (not (in_range t) || not (in_range c) || not (all in_range rotations.now)) }
 {
-    let x = in_range(t);
-    let y = in_range(c);
-    let z = all_in_range(rotations);
-    x & y & z
+    in_range(t) & in_range(c) & all_in_range(rotations)
 }
 
 fn good_determinants(t: Linear, c: Linear) -> bool
     ensures { result ≡ not (not_unimodular t || bad_copies c) }
 {
-    let x = unimodular(t);
-    let y = good_copies(c);
-    x & y
+    unimodular(t) & good_copies(c)
 }
 
-// the verdict, and the new conventional basis
-fn new_lattice(l: Basis, t: Linear, c: Linear, rotations: &[Rotation], new: &mut Basis) -> Verdict
-    ensures checked { Checked (lattice_conditions l t c rotations.now) result }
-    ensures after { new.new ≡ if_accepted result (new_of l t c rotations.now) }
+// the new conventional basis, or the number that refuses it
+fn new_lattice(l: Basis, t: Linear, c: Linear, rotations: &[Rotation]) -> Result<Basis, usize>
+    ensures accepted { IfOk result (λ m.
+        Checked (lattice_conditions l t c rotations.now) Verdict.Accepted × (m ≡ new_of l t c rotations.now)) }
+    ensures refused { IfErr result (λ k. Checked (lattice_conditions l t c rotations.now) (Verdict.Refused k)) }
 {
-    *new = ZEROS;
     if !is_some_count(rotations.len()) {
-        return Verdict::Refused(refusal::COUNTS);
+        return Err(refusal::COUNTS);
     }
     if !entries_in_range(t, c, rotations) {
-        return Verdict::Refused(refusal::MATRIX_ENTRY);
+        return Err(refusal::MATRIX_ENTRY);
     }
     if !lattice_within(l) {
-        return Verdict::Refused(refusal::FLOAT_RANGE);
+        return Err(refusal::FLOAT_RANGE);
     }
     if !good_determinants(t, c) {
-        return Verdict::Refused(refusal::DETERMINANT);
+        return Err(refusal::DETERMINANT);
     }
     let old = conventional_basis(l, t, c);
-    if !symmetrized(old, rotations, new) {
-        return Verdict::Refused(refusal::LATTICE);
-    }
-    Verdict::Accepted
-}
-
-fn if_accepted(v: Verdict, m: Basis) -> Basis
-    ensures { result ≡ if_accepted v m }
-{
-    match v {
-        Verdict::Accepted => m,
-        Verdict::Refused(_) => ZEROS,
-    }
+    symmetrized(old, rotations).ok_or(refusal::LATTICE)
 }
 
 // `new` becomes the conventional basis, `primitive` it times C⁻¹ and `listed` that times C; all zero after a refusal.
@@ -172,11 +141,20 @@ pub fn symmetrize_lattice(
     ensures { LatticePromise l t c rotations.now
         new.new primitive.new listed.new result }
 {
-    let verdict = new_lattice(l, t, c, rotations, new);
-    let basis = *new;
-    let p = matrix::product(basis, whole::inverse_of_c(c));
-    let q = matrix::product(p, whole::real(c));
-    *primitive = if_accepted(verdict, p);
-    *listed = if_accepted(verdict, q);
-    verdict
+    match new_lattice(l, t, c, rotations) {
+        Ok(basis) => {
+            let p = matrix::product(basis, whole::inverse_of_c(c));
+            let q = matrix::product(p, whole::real(c));
+            *new = basis;
+            *primitive = p;
+            *listed = q;
+            Verdict::Accepted
+        }
+        Err(number) => {
+            *new = ZEROS;
+            *primitive = ZEROS;
+            *listed = ZEROS;
+            Verdict::Refused(number)
+        }
+    }
 }

@@ -3,9 +3,9 @@ use mathlib.Core.Path.{◌≡◌, refl}
 use mathlib.Core.Bool.{Bool, true, false, ◌&&◌, cond}
 use mathlib.Core.Option.{none, some}
 use lib.Ieee.{Float, binary64, sub, mul, div}
-use Rattle.definitions.specs.Matrix.{mat}
-use Rattle.definitions.specs.Real.{RealMatrix, at_f, zero_f, above0, lower, sqrt, cholesky}
-use Rattle.math_factor.specs.Factor.{HandedBack}
+use Rattle.definitions.specs.Real.{RealMatrix, at_f, above0, lower, sqrt, cholesky}
+use Rattle.std.specs.Prelude.{Some, None}
+use Rattle.math_factor.specs.Factor.{handed_back}
 use Rattle.math_factor.proofs.cholesky.Goals as goal
 
 -- the definition's steps, with the roots l00 and l11 as arguments
@@ -38,11 +38,11 @@ module _ (g : RealMatrix) (l00 l11 l22 : Float) (e0 : l00 ≡ sqrt (at_f g 0 0))
   unfolding cholesky
   by_roots = rw (e2, e1, e0)
 
-  there : tests g l00 l11 ≡ true → HandedBack (cholesky g) true (rows g l00 l11 l22)
-  there t = rw (by_roots, t) (record { there = refl; value = refl })
+  there : tests g l00 l11 ≡ true → Some (rows g l00 l11 l22) ≡ handed_back (cholesky g)
+  there t = rw (by_roots, t) refl
 
-  missing : tests g l00 l11 ≡ false → HandedBack (cholesky g) false (mat (λ i j. zero_f))
-  missing t = rw (by_roots, t) (record { there = refl; value = refl })
+  missing : tests g l00 l11 ≡ false → None ≡ handed_back (cholesky g)
+  missing t = rw (by_roots, t) refl
 
 pub returns-then-above0-above1 : goal.returns-then-above0-above1
 returns-then-above0-above1 c =

@@ -1,61 +1,33 @@
--- The step that settles x says what it is rounded to, and one does. The second clause follows from the first, as x
--- fits.
-use mathlib.Core.Path.{◌≡◌, sym, subst}
-use mathlib.Core.Logic.{◌⊎◌, inl, inr}
-use lib.Dec.{T}
-use lib.Ieee.{Float, binary64, fits}
-use borrow.Author.Rules.{rules}
+-- One of the steps settles x, and what it says is what x is rounded to, which is nearest as x fits.
+use Rattle.std.proofs.Common.{◌≡◌, refl, sym, subst, inl, inr, rules}
+use Rattle.std.specs.Prelude.{◌⊎◌, Float, Option, None, Some, MatchOption, IsSome}
 use Rattle.definitions.specs.Real.{round_away, IsRound}
 use Rattle.math_round.specs.Nearest.{round_is_nearest}
 use Rattle.math_round.specs.Cases.{Special, Nearest, Tie, StepOf}
 use Rattle.math_round.proofs.OneCase.{just_one}
-use Rattle.math_round.specs.declared.cases.Step.{Step}
-use Rattle.math_round.specs.declared.cases.Step.TheVariants.{Settled, Open}
 use Rattle.math_round.proofs.round.Goals as goal
 
-both : (x r : Float) → T (fits binary64 x) → r ≡ round_away x → (r ≡ round_away x) × IsRound x r
-both x r f e = (e, subst (IsRound x) (sym e) (round_is_nearest x f))
-
--- what a step says, once its answer is known
-settled : (A : Type 0) (x r : Float) (t : Step) → StepOf A x t → t ≡ Settled r → r ≡ round_away x
-settled A x r t h e = (subst (StepOf A x) e h).1
-
-open_step : (A : Type 0) (x : Float) (t : Step) → StepOf A x t → t ≡ Open → A → ⊥
-open_step A x t h e = subst (StepOf A x) e h
-
-pub returns-in-Settled : goal.returns-in-Settled
-returns-in-Settled c =
-    let x = c.args.x in
-    let g = c.special-first in
-    let told = both x _ (search rules) (settled (Special x) x _ g.result g.ensures (search rules)) in record { value = told.0; nearest = told.1 }
-
-pub returns-in-Settled-second : goal.returns-in-Settled-second
-returns-in-Settled-second c =
-    let x = c.args.x in
-    let g = c.nearest-second in
-    let told = both x _ (search rules) (settled (Nearest x) x _ g.result g.ensures (search rules)) in record { value = told.0; nearest = told.1 }
-
-pub returns-in-Settled-third : goal.returns-in-Settled-third
-returns-in-Settled-third c =
-    let x = c.args.x in
-    let g = c.tie-third in
-    let told = both x _ (search rules) (settled (Tie x) x _ g.result g.ensures (search rules)) in record { value = told.0; nearest = told.1 }
-
-pub returns-in-Open : goal.returns-in-Open
-returns-in-Open c =
-    let x = c.args.x in
-    let g₁ = c.special-first in
-    let g₂ = c.nearest-second in
-    let g₃ = c.tie-third in
-    absurd
-    (none x (open_step (Special x) x g₁.result g₁.ensures (search rules))
-    (open_step (Nearest x) x g₂.result g₂.ensures (search rules))
-    (open_step (Tie x) x g₃.result g₃.ensures (search rules)))
+-- of three steps, each tried where those before it settle nothing
+settled :
+    (x : Float) (o p q : Option Float) (P Q : Type 0) → StepOf (Special x) x o →
+    MatchOption o P (λ r. p ≡ Some r) → (P → StepOf (Nearest x) x p) →
+    MatchOption p Q (λ r. q ≡ Some r) → (Q → StepOf (Tie x) x q) → IsSome q
+settled x o p (Some r) P Q a b n d t = refl
+settled x o (Some s) None P Q a b n d t = cc
+settled x (Some s) None None P Q a b n d t = cc
+settled x None None None P Q a b n d t = absurd (by (just_one x).some)
   where
-    none : (x : Float) → (Special x → ⊥) → (Nearest x → ⊥) → (Tie x → ⊥) → ⊥
-    none x a b c = by (just_one x).some
-      where
-        by : Special x ⊎ (Nearest x ⊎ Tie x) → ⊥
-        by (inl h) = a h
-        by (inr (inl h)) = b h
-        by (inr (inr h)) = c h
+    by : Special x ⊎ (Nearest x ⊎ Tie x) → ⊥
+    by (inl h) = a h
+    by (inr (inl h)) = n b h
+    by (inr (inr h)) = t d h
+
+pub unwrap-requires : goal.unwrap-requires
+unwrap-requires c =
+    settled c.args.x _ _ _ _ _ c.special.ensures c.or_else.ensures (λ e. search rules) c.or_else-2.ensures (λ e. search rules)
+
+pub returns-clause-nearest : goal.returns-clause-nearest
+returns-clause-nearest c =
+    let x = c.args.x in
+    let e : c.unwrap.result ≡ round_away x = search rules in
+    subst (IsRound x) (sym e) (round_is_nearest x (search rules))

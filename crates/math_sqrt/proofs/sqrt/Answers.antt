@@ -1,30 +1,20 @@
--- `math_sqrt::sqrt` meets its contract: each return is a case of the definition, and the definition's root is the
--- nearest.
-use Prim.Native.Nat.{◌%◌, ◌≤◌}
-use mathlib.Core.Path.{◌≡◌, refl, sym, ap, ◌∙◌, subst}
-use mathlib.Core.Bool.{Bool, true, false, not}
-use native.Mathlib.Omega.{arith}
+-- Each return is a case of the definition, and the definition's root is the nearest.
+use Rattle.std.proofs.Common.{◌%◌, ◌≤◌, ◌≡◌, refl, sym, ap, ◌∙◌, subst, arith, rules}
+use Rattle.std.specs.Prelude.{Bool, true, not, T, Float}
+use Rattle.std.specs.Float.{nan, inf, fin, binary64}
+use Rattle.std.specs.Float.Ieee.{of_bits, to_bits, fits, is_nan}
 use borrow.Author.Tests.{le-ltb}
-use lib.Dec.{T}
-use lib.Ieee as Ieee
-use lib.Ieee.{Float, nan, binary64, of_bits, to_bits, div, fits, is_nan, ne}
 use lib.Ieee.Bits.{of_bits-to_bits, nan_bits_above}
-use lib.Ieee.Compare.{differs_from_itself, nan_differs}
 use Rattle.definitions.specs.Real.{IsSqrt, sqrt}
 use Rattle.math_sqrt.specs.Nearest.{sqrt_is_nearest}
 use Rattle.math_sqrt.specs.Cases.{root_of_zero, root_of_negative, root_of_infinite, root_of_positive}
-use borrow.Author.Rules.{rules}
 use Rattle.math_sqrt.proofs.sqrt.Goals as goal
 
-number : (x : Float) → ne x x ≡ false → T (not (is_nan x))
-unfolding is_nan
-number nan e = absurd (subst T (sym nan_differs ∙ e) tt)
-number (Ieee.inf s) e = tt
-number (Ieee.fin s m e) h = tt
-
-of_nan : (x : Float) → ne x x ≡ true → x ≡ sqrt x
-unfolding sqrt
-of_nan x e = rw (differs_from_itself x (subst T (sym e) tt))
+of_nan : (x : Float) → true ≡ is_nan x → x ≡ sqrt x
+unfolding sqrt is_nan
+of_nan nan e = refl
+of_nan (inf s) e = cc
+of_nan (fin s m d) e = cc
 
 both : (x r : Float) → T (fits binary64 x) → r ≡ sqrt x → (r ≡ sqrt x) × IsSqrt x r
 both x r f e = (e, subst (IsSqrt x) (sym e) (sqrt_is_nearest x f))
@@ -32,31 +22,28 @@ both x r f e = (e, subst (IsSqrt x) (sym e) (sqrt_is_nearest x f))
 itself : (x : Float) → T (fits binary64 x) → sqrt (of_bits binary64 (to_bits binary64 x)) ≡ of_bits binary64 (to_bits binary64 x) → (x ≡ sqrt x) × IsSqrt x x
 itself x f e = both x x f (sym (subst (λ y. sqrt y ≡ y) (of_bits-to_bits binary64 x f) e))
 
-no_number : div binary64 (of_bits binary64 0) (of_bits binary64 0) ≡ nan
-unfolding div of_bits
+no_number : of_bits binary64 9221120237041090560 ≡ nan
+unfolding of_bits
 no_number = refl
 
-pub returns-then-x : goal.returns-then-x
-returns-then-x c =
+pub returns-then-is_nan : goal.returns-then-is_nan
+returns-then-is_nan c =
     let x = c.args.x in
-    let told = both x x (search rules) (of_nan x c.if-x.true) in record { value = told.0; nearest = told.1 }
-
-pub float_to_bits-b : goal.float_to_bits-b
-float_to_bits-b c = number c.args.x c.if-x.false
+    let told = both x x (search rules) (of_nan x c.if-is_nan.ensures.value) in record { value = told.0; nearest = told.1 }
 
 pub returns-then-b-eq0 : goal.returns-then-b-eq0
 returns-then-b-eq0 c =
     let x = c.args.x in
     let told = itself x (search rules) (root_of_zero (to_bits binary64 x) c.if-b-eq0.true) in record { value = told.0; nearest = told.1 }
 
-pub returns-then-b-ge9223372036854775808 : goal.returns-then-b-ge9223372036854775808
-returns-then-b-ge9223372036854775808 c =
+pub returns-then-b-ge-SIGN : goal.returns-then-b-ge-SIGN
+returns-then-b-ge-SIGN c =
     let x = c.args.x in
     let f : T (fits binary64 x) = search rules in
-    let told = both x _ f (no_number ∙ sym (root_of_negative (to_bits binary64 x) c.if-b-ge9223372036854775808.true c.if-b-eq0.false) ∙ ap sqrt (of_bits-to_bits binary64 x f)) in record { value = told.0; nearest = told.1 }
+    let told = both x _ f (no_number ∙ sym (root_of_negative (to_bits binary64 x) c.if-b-ge-SIGN.true c.if-b-eq0.false) ∙ ap sqrt (of_bits-to_bits binary64 x f)) in record { value = told.0; nearest = told.1 }
 
-pub returns-then-b-ge9218868437227405312 : goal.returns-then-b-ge9218868437227405312
-returns-then-b-ge9218868437227405312 c =
+pub returns-then-b-ge-INFINITY : goal.returns-then-b-ge-INFINITY
+returns-then-b-ge-INFINITY c =
     let x = c.args.x in
     let told = itself x (search rules) (root_of_infinite (to_bits binary64 x) (omega arith) (omega arith)) in record { value = told.0; nearest = told.1 }
 

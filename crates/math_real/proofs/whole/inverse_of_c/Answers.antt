@@ -32,5 +32,5 @@ int_to_float-d c =
 
 pub returns : goal.returns
 returns c =
-    let cofactors = c.real32-a.ensures ∙ ap real (c.adjugate.ensures ∙ ap adjugate c.widened-m.ensures) in
+    let cofactors = c.real-a.ensures ∙ ap real (c.adjugate.ensures ∙ ap adjugate c.widened-m.ensures) in
     c.divide.ensures ∙ (λ i. divide_m (cofactors i) (real_of (number c.before.before.before.before i)))

@@ -1,33 +1,21 @@
--- A NaN is told by its comparison, every other float by its pattern.
-use Prim.Native.Nat.{◌<◌}
-use mathlib.Core.Path.{◌≡◌, refl, sym, ◌∙◌, subst}
-use mathlib.Core.Bool.{true, false, not}
-use mathlib.Core.Logic.{inl}
-use native.Mathlib.Omega.{arith}
-use lib.Dec.{T}
-use lib.Ieee.{Float, nan, inf, fin, binary64, fits, is_nan, ne}
-use lib.Ieee.Compare.{differs_from_itself, nan_differs}
-use borrow.Author.Rules.{rules}
+-- A NaN is special, and every other float is told by its pattern.
+use Rattle.std.proofs.Common.{◌≡◌, refl, inl, arith, rules, ◌<◌}
+use Rattle.std.specs.Prelude.{T, Float, true}
+use Rattle.std.specs.Float.{nan, inf, fin, binary64}
+use Rattle.std.specs.Float.Ieee.{fits, is_nan}
 use Rattle.math_round.specs.Cases.{Special}
 use Rattle.math_round.specs.Pattern.{field_of, bits_of}
-use Rattle.math_round.proofs.ByPattern.{zero_is_special, infinite_is_special, other_is_not}
-use Rattle.math_round.proofs.ByPattern.{whole_is_nearest, parted}
+use Rattle.math_round.proofs.ByPattern.{zero_is_special, infinite_is_special, other_is_not, whole_is_nearest, parted}
 use Rattle.math_round.proofs.pattern.measured.Goals as goal
 
-no_number : (x : Float) → ne x x ≡ true → Special x
-no_number x e = subst Special (sym (differs_from_itself x (subst T (sym e) tt))) (inl refl)
-
-number : (x : Float) → ne x x ≡ false → T (not (is_nan x))
+no_number : (x : Float) → true ≡ is_nan x → Special x
 unfolding is_nan
-number nan e = absurd (subst T (sym nan_differs ∙ e) tt)
-number (inf s) e = tt
-number (fin s m e) h = tt
+no_number nan e = inl refl
+no_number (inf s) e = cc
+no_number (fin s m d) e = cc
 
-pub returns-then-x : goal.returns-then-x
-returns-then-x c = no_number c.args.x c.if-x.true
-
-pub float_to_bits-bits : goal.float_to_bits-bits
-float_to_bits-bits c = number c.args.x c.if-x.false
+pub returns-then-is_nan : goal.returns-then-is_nan
+returns-then-is_nan c = no_number c.args.x c.if-is_nan.ensures.value
 
 pub returns-then-size-eq0 : goal.returns-then-size-eq0
 returns-then-size-eq0 c = zero_is_special c.args.x (search rules) c.if-size-eq0.true

@@ -7,8 +7,8 @@ use mir.Syntax.{w64}
 use mir.Val.{to_z}
 use mir.ValLaws.{to_z_pos}
 use lib.IntN.{pos}
-use lib.Dec.{T, eqb, le→leb}
-use lib.Ieee.{binary64, of_int, of_bits, to_bits, nan_bits, is_nan, in_float, round}
+use lib.Dec.{T, eqb}
+use lib.Ieee.{binary64, of_int, of_bits, to_bits, nan_bits, is_nan, round}
 use lib.Ieee.Fits.{round-fits}
 use lib.Ieee.Back.{round_whole}
 use lib.Ieee.Bits.{of_bits-to_bits, to_bits-lt, nan_bits_is}
@@ -30,10 +30,6 @@ module _ (n s : ℕ) (h : n ≤ 2 ^ 53) (l : s < 2) where
   read : of_bits binary64 (to_bits binary64 (of_int binary64 (to_z w64 n)) + s * 2 ^ 63) ≡ round binary64 (eqb s 1) n 1
   read = ap (of_bits binary64) bits ∙ of_bits-to_bits binary64 (round binary64 (eqb s 1) n 1) (round-fits binary64 (eqb s 1) n 1)
 
-  in_float_lem : T (in_float binary64 (to_z w64 n))
-  unfolding in_float
-  in_float_lem = subst (λ z. T (in_float binary64 z)) (sym same_int) (le→leb n (2 ^ 53) h)
-
   number : T (not (is_nan (of_int binary64 (to_z w64 n))))
   number = subst (λ v. T (not (is_nan v))) (sym as_float) (whole_number (round binary64 false n 1) false n (round_whole binary64 false n h))
 
@@ -46,9 +42,6 @@ module _ (n s : ℕ) (h : n ≤ 2 ^ 53) (l : s < 2) where
       (whole_number (round binary64 (eqb s 1) n 1) (eqb s 1) n (round_whole binary64 (eqb s 1) n h))
 
 -- ---- the goals
-
-pub int_to_float-size : goal.int_to_float-size
-int_to_float-size c = in_float_lem c.args.n c.args.sign c.requires.0 c.requires.1
 
 pub float_to_bits-result : goal.float_to_bits-result
 float_to_bits-result c = number c.args.n c.args.sign c.requires.0 c.requires.1
