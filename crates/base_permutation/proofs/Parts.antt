@@ -1,16 +1,13 @@
 -- Permutations that stand one behind the other in one list, tested in turn: what is asked of all is asked of those not
 -- yet tested.
-use Prim.Native.Nat.{ℕ, ◌+◌, ◌-◌, ◌*◌, ◌≤◌, ◌<◌}
-use mathlib.Core.Path.{◌≡◌, refl, sym, ◌∙◌}
-use mathlib.Core.Bool.{Bool, true, false}
-use mathlib.Core.List.{List}
-use native.Mathlib.Omega.{arith}
-use lib.ListN.{length, take, drop, length-take, length-drop}
+use Rattle.std.proofs.Common.{ℕ, ◌+◌, ◌-◌, ◌*◌, ◌/◌, ◌≤◌, ◌<◌, ◌≡◌, refl, sym, ap, ◌∙◌, Bool, true, false, List, length, take, drop, arith, mul-le-mul_right, length-take, length-drop}
+use Rattle.std.proofs.Math.Nat.{div-mul-le_self, mul_comm}
 use borrow.Author.Tests.{ne_eqb}
 use Rattle.definitions.specs.Lists.{all, up_to}
 use Rattle.definitions.specs.Permutation.{is_permutation, permutation_at}
-use Rattle.laws.specs.Counting.{all_of, length-up_to}
-use Rattle.laws.specs.Lists.{up_to_at, below_up_to, all_pass, all_fail, all_end, part_of}
+use Rattle.laws.specs.Counting.{all_of, all_at, length-up_to}
+use Rattle.laws.specs.Lists.{up_to_at, below_up_to, all_pass, all_fail, all_end, next_part, part_of}
+use Rattle.laws.specs.Tests.{never}
 
 abbrev pub is_nth : ℕ → List ℕ → ℕ → Bool
 is_nth n images o = is_permutation n (permutation_at n images o)
@@ -52,3 +49,21 @@ module _ (images : List ℕ) (n k : ℕ) where
 pub of_no_sites : (images : List ℕ) (n k : ℕ) → n ≡ 0 → true ≡ all (is_nth n images) (up_to k)
 unfolding is_permutation all
 of_no_sites images n k e = rw e (sym (all_of (is_nth 0 images) 0 (up_to k) (λ o h. refl)))
+
+-- permutation o of k stands within a list that has room for k of them
+pub room_for : (m n k o : ℕ) → k ≤ m / n → o < k → o * n + n ≤ m
+room_for m n k o h l =
+    let up : (o + 1) * n ≤ m / n * n = mul-le-mul_right n (omega arith) in
+    omega (arith, next_part o (o * n) n refl, div-mul-le_self m n)
+
+-- the first permutation that has no room in the list is none
+pub too_few : (images : List ℕ) (n k : ℕ) → (n ≡ 0 → ⊥) → length images / n < k → false ≡ all (is_nth n images) (up_to k)
+too_few images n k z h = by (all (is_nth n images) (up_to k)) refl
+  where
+    by : (b : Bool) → all (is_nth n images) (up_to k) ≡ b → false ≡ b
+    by false e = refl
+    by true e =
+        let m : ℕ = length images / n in
+        let passes = all_at (is_nth n images) 0 (up_to k) e m (below_up_to k m h) in
+        let short : length images - m * n < n = omega (arith, mul_comm n m) in
+        absurd (never (sym (cut_short images n m (m * n) refl short) ∙ ap (is_nth n images) (sym (up_to_at k m h)) ∙ passes))

@@ -1,6 +1,6 @@
 -- A permutation of n sites is a bijection: `inverse_image` is its inverse on both sides, and the identity, inverses and
 -- products are permutations.
-use Rattle.std.specs.Prelude.{ℕ, zero, suc, ◌+◌, ◌≤◌, ◌<◌, ◌≡◌, refl, Bool, true, false, ◌&&◌, not, List, [], ◌∷◌, map, T, take}
+use Rattle.std.specs.Prelude.{ℕ, zero, suc, ◌+◌, ◌≤◌, ◌<◌, ◌≡◌, refl, Bool, true, false, ◌&&◌, List, [], ◌∷◌, map, T, take}
 use Rattle.std.proofs.Math.Path.{sym}
 use Rattle.std.proofs.Common.{ap, ◌∙◌, subst, ⊎_elim, arith, not-suc-le-zero, le_of_suc-le-suc, eq-or-lt_of_le, get_or-take, length-take-le}
 use Rattle.std.proofs.Math.Dec.{ltb, eqb}
@@ -11,10 +11,6 @@ use Rattle.definitions.specs.Lists.{count, up_to}
 use Rattle.definitions.specs.Permutation.{image, is_permutation, inverse_image, after}
 use Rattle.laws.specs.Counting.{bit, all_of, all_at, count-cons, count_from, count_once, count-place, first_found, length-up_to, get_d_up_to}
 use Rattle.laws.specs.Tests.{never}
-
--- a cell of the table of the images met
-abbrev pub marked : ℕ → Bool
-marked m = not (eqb m 0)
 
 -- ---- the test and what it says
 

@@ -8,47 +8,37 @@ ghost use Rattle.definitions.specs.Refusal.{Checked};
 ghost use Rattle.definitions.specs.Calls.{identity_conditions, inverse_conditions, product_conditions};
 ghost use Rattle.definitions.specs.Calls.{IdentityPromise, ImagePromise, InversePromise, ProductPromise};
 ghost use Rattle.definitions.specs.Permutation.{is_permutation, permutation_at, inverse_image, after};
-ghost use Rattle.base_permutation.specs.Bijection.{marked};
 
 use definitions::limits::MOST_SITES;
 use definitions::{Image, PrimSite, Verdict, refusal};
-use lent::clear_u8;
-
-fn wide(x: u8) -> usize
-    ensures { result ≡ x }
-{
-    x as usize
-}
+use lent::clear;
 
 // Whether p lists each of its own places once, entry by entry: a table says which images were met.
 fn each_once(p: &[u8]) -> bool
     ensures { result ≡ is_permutation (length p.now) p.now }
 {
-    let mut met = [0u8; 256];
-    let mut i: usize = 0;
-    while i < p.len() {
-        let x = wide(p[i]);
+    let mut met = [false; 256];
+    for image in p {
+        let x = usize::from(*image);
         if p.len() <= x {
             return false;
         }
-        if met[x] != 0 {
+        if met[x] {
             return false;
         }
-        met[x] = 1;
-        i += 1;
+        met[x] = true;
     }
     true
 }
 
-// Whether every cell is marked: no branch, so that many cells are read at a time.
-fn all_marked(marks: &[u8]) -> bool
-    ensures { result ≡ all marked marks.now }
+// Whether every cell is marked. `Iterator::all` would stop at the first that is not: no branch here, so that many cells
+// are read at a time.
+fn all_marked(marks: &[bool]) -> bool
+    ensures { result ≡ all (λ m. m) marks.now }
 {
     let mut whole = true;
-    let mut i: usize = 0;
-    while i < marks.len() {
-        whole = whole & (marks[i] != 0);
-        i += 1;
+    for mark in marks {
+        whole &= *mark;
     }
     whole
 }
@@ -59,14 +49,11 @@ fn all_met(p: &[u8]) -> bool
     requires { length p.now ≤ 256 }
     ensures { result ≡ is_permutation (length p.now) p.now }
 {
-    let mut marks = [0u8; 256];
-    let mut i: usize = 0;
-    while i < p.len() {
-        let x = wide(p[i]);
-        marks[x] = 1;
-        i += 1;
+    let mut marks = [false; 256];
+    for image in p {
+        marks[usize::from(*image)] = true;
     }
-    all_marked(&marks[0..p.len()])
+    all_marked(&marks[..p.len()])
 }
 
 // Whether p lists each of its own places once. Reading the marks again pays in longer lists; the table has 256 of them.
@@ -89,18 +76,14 @@ pub fn all_permutations(images: &[u8], n: usize, k: usize) -> bool
     if n == 0 {
         return true;
     }
-    let mut at: usize = 0;
-    let mut o: usize = 0;
-    while o < k {
-        if images.len() - at < n {
+    if images.len() / n < k {
+        return false;
+    }
+    for o in 0..k {
+        let at = o * n;
+        if !is_permutation(&images[at..at + n]) {
             return false;
         }
-        let end = at + n;
-        if !is_permutation(&images[at..end]) {
-            return false;
-        }
-        at = end;
-        o += 1;
     }
     true
 }
@@ -161,10 +144,8 @@ fn put_identity(n: usize, out: &mut [u8])
     requires { (n ≤ 256) × (n ≤ length out.old) }
     ensures { out.new ≡ up_to n ++ drop n out.old }
 {
-    let mut i: usize = 0;
-    while i < n {
+    for i in 0..n {
         out[i] = i as u8;
-        i += 1;
     }
 }
 
@@ -174,11 +155,9 @@ fn put_inverse(p: &[u8], out: &mut [u8])
     ensures { out.new ≡ map (inverse_image p.now) (up_to (length p.now)) ++
         drop (length p.now) out.old }
 {
-    let mut i: usize = 0;
-    while i < p.len() {
-        let x = wide(p[i]);
+    for (i, image) in p.iter().enumerate() {
+        let x = usize::from(*image);
         out[x] = i as u8;
-        i += 1;
     }
 }
 
@@ -188,11 +167,8 @@ fn put_product(p: &[u8], q: &[u8], out: &mut [u8])
     ensures { out.new ≡
         after p.now q.now ++ drop (length q.now) out.old }
 {
-    let mut i: usize = 0;
-    while i < q.len() {
-        let x = wide(q[i]);
-        out[i] = p[x];
-        i += 1;
+    for (i, image) in q.iter().enumerate() {
+        out[i] = p[usize::from(*image)];
     }
 }
 
@@ -206,10 +182,10 @@ pub fn identity(n: usize, out: &mut [u8]) -> Verdict
     match v {
         Verdict::Accepted => {
             put_identity(n, out);
-            clear_u8(out, n);
+            clear(out, n);
         }
         Verdict::Refused(_) => {
-            clear_u8(out, 0);
+            clear(out, 0);
         }
     }
     v
@@ -229,7 +205,7 @@ pub fn apply(p: &[u8], i: PrimSite) -> Image
     if p.len() <= at {
         return Image::Refused(refusal::SITE_IMAGE);
     }
-    Image::Site(PrimSite(wide(p[at])))
+    Image::Site(PrimSite(usize::from(p[at])))
 }
 
 // The inverse of p.
@@ -240,10 +216,10 @@ pub fn inverse(p: &[u8], out: &mut [u8]) -> Verdict
     match v {
         Verdict::Accepted => {
             put_inverse(p, out);
-            clear_u8(out, p.len());
+            clear(out, p.len());
         }
         Verdict::Refused(_) => {
-            clear_u8(out, 0);
+            clear(out, 0);
         }
     }
     v
@@ -257,10 +233,10 @@ pub fn product(p: &[u8], q: &[u8], out: &mut [u8]) -> Verdict
     match v {
         Verdict::Accepted => {
             put_product(p, q, out);
-            clear_u8(out, q.len());
+            clear(out, q.len());
         }
         Verdict::Refused(_) => {
-            clear_u8(out, 0);
+            clear(out, 0);
         }
     }
     v

@@ -27,6 +27,6 @@ returns-then-p-at c =
 pub returns : goal.returns
 unfolding verdict_of
 returns c =
-    accepted_with _ _ c.wide.result
+    accepted_with _ _ c.from.result
     (checked _ (is_false (le-ltb _ _ c.if-p-gt-MOST_SITES.false), (is_false (neither (ap not (sym c.is_permutation.ensures) ∙ (ap not c.if-not-is_permutation.false)) (lt-leb _ _ c.if-p-at.false)), tt)) Accepted refl)
-    c.wide.ensures
+    c.from.ensures

@@ -20,9 +20,9 @@ returns-in-Accepted c =
     let room = (identity_facts a.n (length a.out.now) (rw told at v.ensures)).1 in (
       v.ensures,
       rw told
-          (padded_by 0 (up_to a.n) a.out.now c.clear_u8.new.out c.put_identity.new.out a.n (length-up_to a.n) room c.put_identity.ensures c.clear_u8.ensures),
+          (padded_by 0 (up_to a.n) a.out.now c.clear.new.out c.put_identity.new.out a.n (length-up_to a.n) room c.put_identity.ensures c.clear.ensures),
     )
 
 pub returns-in-Refused : goal.returns-in-Refused
 returns-in-Refused c =
-    (c.identity_verdict-v.ensures, rw c.in-Refused.is c.clear_u8-in-Refused.ensures)
+    (c.identity_verdict-v.ensures, rw c.in-Refused.is c.clear-in-Refused.ensures)

@@ -23,9 +23,9 @@ returns-in-Accepted c =
     let room = (inverse_facts a.p.now (length a.out.now) (rw told at v.ensures)).2 in (
       v.ensures,
       rw told
-          (padded_by 0 (map (inverse_image a.p.now) (up_to (length a.p.now))) a.out.now c.clear_u8.new.out c.put_inverse.new.out (length a.p.now) (length-map (up_to (length a.p.now)) (inverse_image a.p.now) ∙ length-up_to (length a.p.now)) room c.put_inverse.ensures c.clear_u8.ensures),
+          (padded_by 0 (map (inverse_image a.p.now) (up_to (length a.p.now))) a.out.now c.clear.new.out c.put_inverse.new.out (length a.p.now) (length-map (up_to (length a.p.now)) (inverse_image a.p.now) ∙ length-up_to (length a.p.now)) room c.put_inverse.ensures c.clear.ensures),
     )
 
 pub returns-in-Refused : goal.returns-in-Refused
 returns-in-Refused c =
-    (c.inverse_verdict-v.ensures, rw c.in-Refused.is c.clear_u8-in-Refused.ensures)
+    (c.inverse_verdict-v.ensures, rw c.in-Refused.is c.clear-in-Refused.ensures)

@@ -19,9 +19,9 @@ returns-in-Accepted c =
     let room = (product_facts a.p.now a.q.now (length a.out.now) (rw told at v.ensures)).3 in (
       v.ensures,
       rw told
-          (padded_by 0 (after a.p.now a.q.now) a.out.now c.clear_u8.new.out c.put_product.new.out (length a.q.now) (length-map a.q.now (image a.p.now)) room c.put_product.ensures c.clear_u8.ensures),
+          (padded_by 0 (after a.p.now a.q.now) a.out.now c.clear.new.out c.put_product.new.out (length a.q.now) (length-map a.q.now (image a.p.now)) room c.put_product.ensures c.clear.ensures),
     )
 
 pub returns-in-Refused : goal.returns-in-Refused
 returns-in-Refused c =
-    (c.product_verdict-v.ensures, rw c.in-Refused.is c.clear_u8-in-Refused.ensures)
+    (c.product_verdict-v.ensures, rw c.in-Refused.is c.clear-in-Refused.ensures)
