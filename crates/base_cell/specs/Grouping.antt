@@ -13,14 +13,6 @@ use Rattle.definitions.specs.SiteCalls.{IsLabelled, HoldsLabels, nothing_labelle
 abbrev pub Below : ℕ → List ℕ → Type 0
 Below n l = (k : ℕ) → k < length l → get_or l k 0 < n
 
--- the cell of a table that has no listed site yet
-abbrev pub nothing_noted : ℕ
-nothing_noted = 65535
-
--- the listed site that is noted; j where none is
-abbrev pub first_or : ℕ → ℕ → ℕ
-first_or noted j = elim (eqb noted nothing_noted) [ true ↦ j | false ↦ noted ]
-
 -- a table of n cells has for each number how often the list has it
 abbrev pub Counted : ℕ → List ℕ → List ℕ → Type 0
 Counted n l table = (x : ℕ) → x < n → get_or table x 0 ≡ count (eqb x) l

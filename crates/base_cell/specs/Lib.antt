@@ -4,6 +4,7 @@ pub mod Maps
 pub mod Classes
 pub mod Trees
 pub mod Labels
+pub mod Given
 pub mod Grouping
 pub mod Rearranged
 pub mod Labelling

@@ -5,41 +5,38 @@
 
 mod labels;
 mod union_find;
-mod verdicts;
+pub mod verdicts;
 
-ghost use Rattle.std.specs.Prelude.{◌≡◌, true};
-ghost use Rattle.definitions.specs.SiteCalls.{LabelPromise};
+ghost use Rattle.std.specs.Prelude.{true};
+ghost use Rattle.definitions.specs.SiteCalls.{HoldsLabels, LabelPromise, nothing_labelled};
+ghost use Rattle.base_cell.specs.Given.{arguments_of};
 ghost use Rattle.base_cell.specs.Grouping.{Groupable, LabelsLeft, OrbitsLabelled};
 
 use crate::labels::group_sites_by_orbit;
-use crate::verdicts::{can_group, label_verdict};
+use crate::verdicts::Labelling;
 use definitions::Verdict;
-use lent::clear_u16;
+use lent::clear;
 
-// What the call and its step leave: the answer and zero behind it, or zero.
-fn put_orbits(
-    can: bool,
-    sites: usize,
-    count: usize,
-    images: &[u8],
-    mapping: &[u16],
-    labels: &mut [u16],
-    multiplicities: &mut [u16],
-)
-    requires { can ≡ true → Groupable sites count images.now mapping.now labels.old multiplicities.old }
-    ensures { LabelsLeft
-        (record { sites = sites; count = count; images = images.now; mapping = mapping.now })
+// The answer and zero behind it.
+fn put_orbits(x: &Labelling, labels: &mut [u16], multiplicities: &mut [u16])
+    requires { Groupable x.now.sites x.now.count x.now.images.now x.now.mapping.now labels.old multiplicities.old }
+    ensures { LabelsLeft (arguments_of x.now)
         (record { labels = labels.old; multiplicities = multiplicities.old })
-        (record { labels = labels.new; multiplicities = multiplicities.new }) can }
+        (record { labels = labels.new; multiplicities = multiplicities.new }) true }
 {
-    if can {
-        group_sites_by_orbit(sites, count, images, mapping, labels, multiplicities);
-        clear_u16(labels, mapping.len());
-        clear_u16(multiplicities, mapping.len());
-    } else {
-        clear_u16(labels, 0);
-        clear_u16(multiplicities, 0);
-    }
+    group_sites_by_orbit(x, labels, multiplicities);
+    clear(labels, x.mapping.len());
+    clear(multiplicities, x.mapping.len());
+}
+
+// Zero.
+fn put_nothing(labels: &mut [u16], multiplicities: &mut [u16])
+    ensures { HoldsLabels
+        (record { labels = labels.old; multiplicities = multiplicities.old })
+        (record { labels = labels.new; multiplicities = multiplicities.new }) nothing_labelled }
+{
+    clear(labels, 0);
+    clear(multiplicities, 0);
 }
 
 // moyo's `orbits_in_cell` and `group_sites_by_orbit`: labels and multiplicities of the sites of a mapping.
@@ -56,19 +53,17 @@ pub fn label_sites(
         (record { labels = labels.old; multiplicities = multiplicities.old })
         (record { labels = labels.new; multiplicities = multiplicities.new }) result }
 {
-    let v = label_verdict(
+    let x = Labelling {
         sites,
         count,
         images,
         mapping,
-        labels.len(),
-        multiplicities.len(),
-    );
-    let can = match v {
-        Verdict::Accepted => true,
-        Verdict::Refused(_) => false,
     };
-    put_orbits(can, sites, count, images, mapping, labels, multiplicities);
+    let v = x.verdict(labels.len(), multiplicities.len());
+    match v {
+        Verdict::Accepted => put_orbits(&x, labels, multiplicities),
+        Verdict::Refused(_) => put_nothing(labels, multiplicities),
+    }
     v
 }
 
@@ -86,13 +81,15 @@ pub fn label_orbits(
         (record { labels = labels.old; multiplicities = multiplicities.old })
         (record { labels = labels.new; multiplicities = multiplicities.new }) }
 {
-    let can = can_group(
+    let x = Labelling {
         sites,
         count,
         images,
         mapping,
-        labels.len(),
-        multiplicities.len(),
-    );
-    put_orbits(can, sites, count, images, mapping, labels, multiplicities);
+    };
+    if x.can_group(labels.len(), multiplicities.len()) {
+        put_orbits(&x, labels, multiplicities);
+    } else {
+        put_nothing(labels, multiplicities);
+    }
 }

@@ -7,111 +7,99 @@ ghost use Rattle.definitions.specs.Orbit.{Step};
 ghost use Rattle.base_cell.specs.Classes.{Decides};
 ghost use Rattle.base_cell.specs.Trees.{Forest, root, Flat, Linked, Pair, Along};
 
-use definitions::PrimSite;
 use definitions::limits::MOST_SITES;
 
-// The parent of each site, or its root.
+// The root of each site.
 pub(crate) type Sites = [u8; MOST_SITES];
 
-pub(crate) fn wide(x: u8) -> usize
-    ensures { (result ≡ x) × (result < most_sites) }
-{
-    x as usize
+// The parent of each site. A call names a site by its place in the table: as a byte it would need no bound, but cutting
+// places to bytes makes the joining, the hot loop, a fifth slower.
+#[derive(Drop)]
+struct SiteForest {
+    parent: [u8; MOST_SITES],
+    ghost tree: { Forest most_sites parent },
 }
 
-// Each site its own root.
-fn each_alone() -> Sites
-    ensures { result ≡ up_to most_sites }
-{
-    let mut parent = [0u8; MOST_SITES];
-    let mut i: usize = 0;
-    while i < MOST_SITES {
-        parent[i] = i as u8;
-        i += 1;
+impl SiteForest {
+    // Each site its own root.
+    fn each_alone() -> Self
+        ensures { result.parent ≡ up_to most_sites }
+    {
+        let mut parent = [0u8; MOST_SITES];
+        for i in 0..MOST_SITES {
+            parent[i] = i as u8;
+        }
+        SiteForest { parent }
     }
-    parent
-}
 
-// The root of site i.
-fn find(parent: &Sites, i: PrimSite) -> PrimSite
-    requires { (Forest most_sites parent.now) × (i.0 < most_sites) }
-    ensures { (result.0 ≡ root parent.now i.0) × (result.0 < most_sites) }
-{
-    let mut at = i.0;
-    let mut up = wide(parent[at]);
-    while up < at {
-        at = up;
-        up = wide(parent[at]);
+    // The root of site i.
+    fn find(&self, i: usize) -> usize
+        requires { i < most_sites }
+        ensures { (result ≡ root self.now.parent i) × (result < most_sites) }
+    {
+        let mut at = i;
+        let mut up = usize::from(self.parent[at]);
+        while up < at {
+            at = up;
+            up = usize::from(self.parent[at]);
+        }
+        at
     }
-    PrimSite(at)
-}
 
-// The tree of i and that of j become one: the root that comes later under the other, and i and j directly below it, so
-// that later ways up are short. Sites of one parent are of one tree already.
-fn union(parent: &mut Sites, i: PrimSite, j: PrimSite)
-    requires { (Forest most_sites parent.old) × (i.0 < most_sites) × (j.0 < most_sites) }
-    ensures { Linked most_sites (Pair i.0 j.0) parent.old parent.new }
-{
-    let p = i.0;
-    let q = j.0;
-    if parent[p] == parent[q] {
-        return;
+    // The tree of i and that of j become one: the root that comes later under the other, and i and j directly below it,
+    // so that later ways up are short. Sites of one parent are of one tree already.
+    fn union(&mut self, i: usize, j: usize)
+        requires { (i < most_sites) × (j < most_sites) }
+        ensures { Linked most_sites (Pair i j) self.old.parent self.new.parent }
+    {
+        if self.parent[i] == self.parent[j] {
+            return;
+        }
+        let x = self.find(i);
+        let y = self.find(j);
+        if x < y {
+            let top = x as u8;
+            self.parent[y] = top;
+            self.parent[j] = top;
+            self.parent[i] = top;
+        } else {
+            let top = y as u8;
+            self.parent[x] = top;
+            self.parent[i] = top;
+            self.parent[j] = top;
+        }
     }
-    let a = find(parent, i);
-    let b = find(parent, j);
-    let x = a.0;
-    let y = b.0;
-    if x < y {
-        let top = x as u8;
-        parent[y] = top;
-        parent[q] = top;
-        parent[p] = top;
-    } else {
-        let top = y as u8;
-        parent[x] = top;
-        parent[p] = top;
-        parent[q] = top;
-    }
-}
 
-// Each site with its image.
-fn join_images(parent: &mut Sites, p: &[u8])
-    requires { (Forest most_sites parent.old) × (length p.now ≤ most_sites) }
-    ensures { Linked most_sites (Along p.now) parent.old parent.new }
-{
-    let mut i: usize = 0;
-    while i < p.len() {
-        union(parent, PrimSite(i), PrimSite(wide(p[i])));
-        i += 1;
+    // Each site with its image.
+    fn join_images(&mut self, p: &[u8])
+        requires { length p.now ≤ most_sites }
+        ensures { Linked most_sites (Along p.now) self.old.parent self.new.parent }
+    {
+        for (i, image) in p.iter().enumerate() {
+            self.union(i, usize::from(*image));
+        }
     }
-}
 
-// Each site with its image under each of k permutations of n sites.
-fn join_all(parent: &mut Sites, n: usize, k: usize, images: &[u8])
-    requires { (Forest most_sites parent.old) × (n ≤ most_sites) × (length images.now ≡ k * n) }
-    ensures { Linked most_sites (Step (permutations_of n k images.now))
-        parent.old parent.new }
-{
-    let mut at: usize = 0;
-    let mut o: usize = 0;
-    while o < k {
-        let end = at + n;
-        join_images(parent, &images[at..end]);
-        at = end;
-        o += 1;
+    // Each site with its image under each of k permutations of n sites.
+    fn join_all(&mut self, n: usize, k: usize, images: &[u8])
+        requires { (n ≤ most_sites) × (length images.now ≡ k * n) }
+        ensures { Linked most_sites (Step (permutations_of n k images.now)) self.old.parent self.new.parent }
+    {
+        for o in 0..k {
+            let at = o * n;
+            self.join_images(&images[at..at + n]);
+        }
     }
-}
 
-// Each site's parent becomes its root: a parent comes earlier and has its root by then.
-fn flatten(parent: &mut Sites)
-    requires { Forest most_sites parent.old }
-    ensures { Flat most_sites parent.old parent.new }
-{
-    let mut i: usize = 0;
-    while i < MOST_SITES {
-        let up = wide(parent[i]);
-        parent[i] = parent[up];
-        i += 1;
+    // Each site's parent becomes its root: a parent comes earlier and has its root by then.
+    fn flatten(self) -> Sites
+        ensures { Flat most_sites self.parent result }
+    {
+        let mut roots = self.parent;
+        for i in 0..MOST_SITES {
+            roots[i] = roots[usize::from(roots[i])];
+        }
+        roots
     }
 }
 
@@ -120,8 +108,7 @@ pub(crate) fn orbits_from_permutations(n: usize, k: usize, images: &[u8]) -> Sit
     requires { (n ≤ most_sites) × (length images.now ≡ k * n) }
     ensures { Decides most_sites (permutations_of n k images.now) result }
 {
-    let mut parent = each_alone();
-    join_all(&mut parent, n, k, images);
-    flatten(&mut parent);
-    parent
+    let mut forest = SiteForest::each_alone();
+    forest.join_all(n, k, images);
+    forest.flatten()
 }

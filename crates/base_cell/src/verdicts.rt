@@ -1,116 +1,117 @@
 // The verdict of the label call, its refusals in their order, and the test of the step that labels: each decided before
 // anything is written.
-ghost use Rattle.std.specs.Prelude.{◌≡◌, [], ◌∷◌, ◌||◌};
+ghost use Rattle.std.specs.List.{list_all};
+ghost use Rattle.std.specs.Prelude.{◌≡◌, [], ◌∷◌, ◌||◌, ltb, length};
 ghost use Rattle.definitions.specs.Refusal.{Checked};
+ghost use Rattle.definitions.specs.Limits.{shorter_than, too_many_listed};
+ghost use Rattle.definitions.specs.Lists.{any};
 ghost use Rattle.definitions.specs.Lent.{bad_permutation_counts, bad_images};
 ghost use Rattle.definitions.specs.SiteCalls.{bad_mapping, label_conditions};
+ghost use Rattle.base_cell.specs.Given.{arguments_of};
 ghost use Rattle.base_cell.specs.Grouping.{groupable};
 
-use crate::labels::number;
 use base_permutation::all_permutations;
 use definitions::limits::{MOST_LISTED, MOST_OPERATIONS, MOST_SITES};
 use definitions::{Verdict, refusal};
 
-// 2: the product is small by the time that it is made.
-fn bad_counts(sites: usize, count: usize, images: &[u8]) -> bool
-    ensures { result ≡ bad_permutation_counts sites count images.now }
-{
-    if MOST_SITES < sites {
-        return true;
-    }
-    if count == 0 {
-        return true;
-    }
-    if MOST_OPERATIONS < count {
-        return true;
-    }
-    images.len() != count * sites
+// What the call and its step are given: permutations of so many sites, and of each listed site its primitive one.
+#[derive(Clone, Copy)]
+pub struct Labelling<'a> {
+    pub sites: usize,
+    pub count: usize,
+    pub images: &'a [u8],
+    pub mapping: &'a [u16],
 }
 
-// A mapping entry that is no primitive site: every entry is looked at, however many there are.
-fn bad_mapping(sites: usize, mapping: &[u16]) -> bool
-    ensures { result ≡ bad_mapping sites mapping.now }
+// Apart from `bad_mapping`, since there the check does not find what `all` says of the list.
+fn each_below(n: usize, mapping: &[u16]) -> bool
+    ensures { result ≡ list_all (λ i. ltb i n) mapping.now }
 {
-    let mut j: usize = 0;
-    while j < mapping.len() {
-        if sites <= number(mapping[j]) {
+    mapping.iter().all(|site| usize::from(*site) < n)
+}
+
+impl Labelling<'_> {
+    // 2: the product is small by the time that it is made.
+    pub fn bad_counts(&self) -> bool
+        ensures { result ≡ bad_permutation_counts self.now.sites self.now.count self.now.images.now }
+    {
+        if MOST_SITES < self.sites {
             return true;
         }
-        j += 1;
+        if self.count == 0 {
+            return true;
+        }
+        if MOST_OPERATIONS < self.count {
+            return true;
+        }
+        self.images.len() != self.count * self.sites
     }
-    false
-}
 
-// 5
-fn bad_sites(sites: usize, count: usize, images: &[u8], mapping: &[u16]) -> bool
-    ensures { result ≡ (bad_images sites count images.now || bad_mapping sites mapping.now) }
-{
-    if !all_permutations(images, sites, count) {
-        return true;
+    // A mapping entry that is no primitive site: every entry is looked at, however many there are.
+    fn bad_mapping(&self) -> bool
+        ensures { result ≡ bad_mapping self.now.sites self.now.mapping.now }
+    {
+        !each_below(self.sites, self.mapping)
     }
-    bad_mapping(sites, mapping)
-}
 
-// 2, 5, 9, 10
-pub(crate) fn label_verdict(
-    sites: usize,
-    count: usize,
-    images: &[u8],
-    mapping: &[u16],
-    labels: usize,
-    multiplicities: usize,
-) -> Verdict
-    ensures { Checked
-        (label_conditions
-        (record { sites = sites; count = count; images = images.now; mapping = mapping.now })
-        (labels ∷ multiplicities ∷ [])) result }
-{
-    if bad_counts(sites, count, images) {
-        return Verdict::Refused(refusal::COUNTS);
+    // 5
+    pub fn bad_sites(&self) -> bool
+        ensures { result ≡ (bad_images self.now.sites self.now.count self.now.images.now
+            || bad_mapping self.now.sites self.now.mapping.now) }
+    {
+        if !all_permutations(self.images, self.sites, self.count) {
+            return true;
+        }
+        self.bad_mapping()
     }
-    if bad_sites(sites, count, images, mapping) {
-        return Verdict::Refused(refusal::SITE_IMAGE);
-    }
-    if MOST_LISTED < mapping.len() {
-        return Verdict::Refused(refusal::LISTED_SITES);
-    }
-    if labels < mapping.len() {
-        return Verdict::Refused(refusal::BUFFER);
-    }
-    if multiplicities < mapping.len() {
-        return Verdict::Refused(refusal::BUFFER);
-    }
-    Verdict::Accepted
-}
 
-// The step's test: as `label_verdict`, without the costly one, that the images are permutations.
-pub(crate) fn can_group(
-    sites: usize,
-    count: usize,
-    images: &[u8],
-    mapping: &[u16],
-    labels: usize,
-    multiplicities: usize,
-) -> bool
-    ensures { result ≡ groupable
-        (record { sites = sites; count = count; images = images.now; mapping = mapping.now })
-        (labels ∷ multiplicities ∷ []) }
-{
-    if bad_counts(sites, count, images) {
-        return false;
+    // 9
+    fn lists_too_many(&self) -> bool
+        ensures { result ≡ too_many_listed (length self.now.mapping.now) }
+    {
+        MOST_LISTED < self.mapping.len()
     }
-    if bad_mapping(sites, mapping) {
-        return false;
+
+    // 10
+    fn lacks_room(&self, labels: usize, multiplicities: usize) -> bool
+        ensures { result ≡ any (shorter_than (length self.now.mapping.now)) (labels ∷ multiplicities ∷ []) }
+    {
+        let listed = self.mapping.len();
+        labels < listed || multiplicities < listed
     }
-    let listed = mapping.len();
-    if MOST_LISTED < listed {
-        return false;
+
+    // 2, 5, 9, 10
+    pub(crate) fn verdict(&self, labels: usize, multiplicities: usize) -> Verdict
+        ensures { Checked (label_conditions (arguments_of self.now) (labels ∷ multiplicities ∷ [])) result }
+    {
+        if self.bad_counts() {
+            return Verdict::Refused(refusal::COUNTS);
+        }
+        if self.bad_sites() {
+            return Verdict::Refused(refusal::SITE_IMAGE);
+        }
+        if self.lists_too_many() {
+            return Verdict::Refused(refusal::LISTED_SITES);
+        }
+        if self.lacks_room(labels, multiplicities) {
+            return Verdict::Refused(refusal::BUFFER);
+        }
+        Verdict::Accepted
     }
-    if labels < listed {
-        return false;
+
+    // The step's test: as `verdict`, without the costly one, that the images are permutations.
+    pub(crate) fn can_group(&self, labels: usize, multiplicities: usize) -> bool
+        ensures { result ≡ groupable (arguments_of self.now) (labels ∷ multiplicities ∷ []) }
+    {
+        if self.bad_counts() {
+            return false;
+        }
+        if self.bad_mapping() {
+            return false;
+        }
+        if self.lists_too_many() {
+            return false;
+        }
+        !self.lacks_room(labels, multiplicities)
     }
-    if multiplicities < listed {
-        return false;
-    }
-    true
 }

@@ -1,7 +1,6 @@
 -- `label_orbits`: what is left, by the step's own test.
-use mathlib.Core.Path.{sym, subst, ◌∙◌}
+use Rattle.std.proofs.Common.{sym, ◌∙◌}
 use Rattle.definitions.specs.SiteCalls.{LabelArguments, LabelCells}
-use Rattle.base_cell.specs.Grouping.{LabelsLeft}
 use Rattle.base_cell.proofs.Accepted.{grouped_by}
 use Rattle.base_cell.proofs.label_orbits.Goals as goal
 use Rattle.base_cell.proofs.label_orbits.Goals.{Start}
@@ -14,12 +13,5 @@ lent s = record { labels = s.args.labels.now; multiplicities = s.args.multiplici
 
 pub put_orbits-requires : goal.put_orbits-requires
 put_orbits-requires c =
-    λ can. grouped_by (given (goal.at.put_orbits-requires c).Start) (lent (goal.at.put_orbits-requires c).Start) (sym c.can_group-can.ensures ∙ can)
-
-pub returns : goal.returns
-returns c =
-    let p = c.put_orbits in
-    subst
-    (LabelsLeft (given (goal.at.returns c).Start) (lent (goal.at.returns c).Start) (record { labels = p.new.labels; multiplicities = p.new.multiplicities }))
-    c.can_group-can.ensures
-    p.ensures
+    let s = (goal.at.put_orbits-requires c).Start in
+    grouped_by (given s) (lent s) (sym c.can_group.ensures ∙ c.if-can_group.true)

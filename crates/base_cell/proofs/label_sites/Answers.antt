@@ -1,11 +1,10 @@
--- `label_sites`: the verdict is `label_verdict`'s, and what is left is by it.
-use mathlib.Core.Path.{◌≡◌, sym, ap, subst, ◌∙◌}
+-- `label_sites`: the verdict is `verdict`'s, and what is left is by it.
+use Rattle.std.proofs.Common.{sym, ap, subst}
 use Rattle.definitions.specs.SiteCalls.{LabelArguments, LabelCells}
 use Rattle.base_cell.specs.Grouping.{LabelsLeft}
 use Rattle.base_cell.proofs.Accepted.{accepts, facts, kept}
 use Rattle.base_cell.proofs.label_sites.Goals as goal
-use Rattle.base_cell.proofs.label_sites.Goals.{in-Accepted, in-Refused}
-use Rattle.base_cell.proofs.label_sites.Goals.{After-put_orbits-arg-2-1, Start}
+use Rattle.base_cell.proofs.label_sites.Goals.{Start}
 
 abbrev given : Start → LabelArguments
 given s = record { sites = s.args.sites; count = s.args.count; images = s.args.images.now; mapping = s.args.mapping.now }
@@ -13,22 +12,21 @@ given s = record { sites = s.args.sites; count = s.args.count; images = s.args.i
 abbrev lent : Start → LabelCells
 lent s = record { labels = s.args.labels.now; multiplicities = s.args.multiplicities.now }
 
--- where the arms meet
-can_is : (c : After-put_orbits-arg-2-1) → c.match-v.can ≡ accepts c.label_verdict-v.result
-can_is c =
-    elim c.match-v.branch [
-      | in-Accepted w ↦ w.can-is ∙ ap accepts (sym w.in-Accepted.is)
-      | in-Refused w ↦ w.can-is ∙ ap accepts (sym w.in-Refused.is)
-    ]
-
 pub put_orbits-requires : goal.put_orbits-requires
 put_orbits-requires c =
-    let v = c.label_verdict-v in
-    λ can. facts (given (goal.at.put_orbits-requires c).Start) (lent (goal.at.put_orbits-requires c).Start) v.result v.ensures (sym (can_is c) ∙ can)
+    let s = (goal.at.put_orbits-requires c).Start in
+    facts (given s) (lent s) c.verdict-v.result c.verdict-v.ensures (ap accepts c.in-Accepted.is)
 
-pub returns : goal.returns
-returns c =
+pub returns-in-Accepted : goal.returns-in-Accepted
+returns-in-Accepted c =
+    let s = (goal.at.returns-in-Accepted c).Start in
     let p = c.put_orbits in
-    let v = c.label_verdict-v in
     let z : LabelCells = record { labels = p.new.labels; multiplicities = p.new.multiplicities } in
-    kept (given (goal.at.returns c).Start) (lent (goal.at.returns c).Start) z v.result v.ensures (subst (LabelsLeft (given (goal.at.returns c).Start) (lent (goal.at.returns c).Start) z) (can_is (goal.at.returns c).After-put_orbits-arg-2-1) p.ensures)
+    kept (given s) (lent s) z c.verdict-v.result c.verdict-v.ensures (subst (LabelsLeft (given s) (lent s) z) (sym (ap accepts c.in-Accepted.is)) p.ensures)
+
+pub returns-in-Refused : goal.returns-in-Refused
+returns-in-Refused c =
+    let s = (goal.at.returns-in-Refused c).Start in
+    let p = c.put_nothing in
+    let z : LabelCells = record { labels = p.new.labels; multiplicities = p.new.multiplicities } in
+    kept (given s) (lent s) z c.verdict-v.result c.verdict-v.ensures (subst (LabelsLeft (given s) (lent s) z) (sym (ap accepts c.in-Refused.is)) p.ensures)

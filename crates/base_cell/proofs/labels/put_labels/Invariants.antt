@@ -1,15 +1,9 @@
-use Prim.Native.Nat.{◌-◌, ◌≤◌}
-use mathlib.Core.Path.{◌≡◌}
-use mathlib.Core.List.{◌++◌}
-use lib.ListN.{length, take, drop}
+use Rattle.std.proofs.Common.{◌≡◌, ◌++◌, length, take, drop}
 use Rattle.base_cell.specs.Labels.{classes_of, labels_by}
 use Rattle.base_cell.proofs.Firsts.{Noted}
 use Rattle.base_cell.proofs.labels.put_labels.Given as goal
 
 abbrev pub invariant-loop-j : goal.invariant-loop-j
 invariant-loop-j l =
-    (l.j ≤ length l.mapping) × (length l.first ≡ 256) × Noted (classes_of l.roots l.mapping) 256 l.j l.first × (length l.labels ≡ length l.initial.labels)
+    (length l.first ≡ 256) × Noted (classes_of l.roots l.mapping) 256 l.j l.first
     × (l.labels ≡ take l.j (labels_by l.roots l.mapping) ++ drop l.j l.initial.labels)
-
-abbrev pub decreases-loop-j : goal.decreases-loop-j
-decreases-loop-j l = length l.mapping - l.j

@@ -1,0 +1,7 @@
+use Rattle.definitions.specs.Lent.{permutations_of}
+use Rattle.definitions.specs.Orbit.{Step}
+use Rattle.base_cell.specs.Trees.{Linked}
+use Rattle.base_cell.proofs.union_find.SiteForest.join_all.Given as goal
+
+abbrev pub invariant-loop-o : goal.invariant-loop-o
+invariant-loop-o l = Linked 256 (Step (permutations_of l.n l.o l.images)) l.initial.self.parent l.self.parent
