@@ -1,17 +1,19 @@
 -- What the diagonalisation says of its matrix, and what is known once the points are not refused.
-use Rattle.std.proofs.Common.{◌≡◌, ℕ, ◌<◌, ◌≤◌, Bool, true, false, not, T, eqb, ltb, ◌⊎◌, List, ℤ, sym, refl, ap, ◌∙◌, subst, ⊎_elim, arith}
+use Rattle.std.proofs.Common.{◌≡◌, ℕ, ◌<◌, ◌≤◌, Bool, true, false, not, T, eqb, ltb, ◌⊎◌, List, ℤ, Result, Ok, Err, sym, refl, ap, ◌∙◌, subst, ⊎_elim, arith}
+use Rattle.std.specs.Result.{IsErrAnd}
 use Rattle.definitions.specs.declared.Verdict.{Verdict}
 use Rattle.definitions.specs.declared.Verdict.TheVariants.{Accepted, Refused}
 use Rattle.definitions.specs.Lists.{any}
 use Rattle.definitions.specs.Matrix.{Matrix}
-use Rattle.definitions.specs.Refusal.{◌when◌, buffer, upto, precedence, Applies, Returns, Checked}
+use Rattle.definitions.specs.Refusal.{Condition, ◌when◌, buffer, upto, precedence, Applies, Returns, Checked}
 use Rattle.definitions.specs.Snf.{State, Run, Leaves, diagonal}
 use Rattle.definitions.specs.Calls.{snf_conditions, points_conditions, centring_conditions, FactorsPromise}
 use Rattle.definitions.specs.Lent.{zero_point}
 use Rattle.definitions.specs.Limits.{in_range, copies, most_copies, shorter_than}
 use Rattle.math_matrix.specs.Laws.{Three}
 use Rattle.math_snf_laws.specs.Runs.{product}
-use Rattle.base_transformation.specs.Answers.{Ended, Ready}
+use Rattle.base_transformation.specs.declared.Ends.{Ends}
+use Rattle.base_transformation.specs.Answers.{Ended, EndedOr, Ready}
 use Rattle.base_transformation.specs.Lent.{points_facts}
 use Rattle.laws.specs.Order.{numbered, FailAll, past, FailBefore, past_before, checked_without}
 use Rattle.laws.specs.Tests.{so, true_of, or_right}
@@ -32,6 +34,12 @@ snf_refuses c e k r = by (eqb 3 k) (eqb 8 k) (subst (λ (b : Bool). T (not b)) e
     by true false n x = ⊎_elim (λ p. absurd (n p)) (λ z. absurd z) x
     by false true n x = ⊎_elim (λ q. q) (λ z. absurd z) x
     by false false n x = absurd x
+
+-- ---- what `?` passes on
+
+pub err_case : (cs : List Condition) (c : Matrix) (r : Result Ends ℕ) (k : ℕ) → Checked cs (Refused k) → IsErrAnd r (λ j. j ≡ k) → EndedOr cs c r
+err_case cs c (Err j) k h e = subst (λ x. Checked cs (Refused x)) (sym e) h
+err_case cs c (Ok x) k h e = absurd e
 
 -- ---- the verdict on the points
 

@@ -1,5 +1,5 @@
 -- What there is room for, test by test.
-use Rattle.std.proofs.Common.{◌≡◌, ℕ, ◌*◌, ◌≤◌, Bool, true, false, not, ◌&&◌, ◌||◌, eqb, ltb, List, [], ◌∷◌, length, get_or, sym, refl, arith, ltb-false, eqb-true}
+use Rattle.std.proofs.Common.{◌≡◌, ℕ, ◌*◌, ◌≤◌, Bool, true, false, not, ◌&&◌, eqb, ltb, [], ◌∷◌, length, refl, ltb-false, eqb-true}
 use borrow.Author.Tests.{not-false}
 use Rattle.definitions.specs.Lists.{any}
 use Rattle.definitions.specs.Limits.{most_sites, most_copies, too_many_sites, shorter_than}
@@ -7,41 +7,6 @@ use Rattle.definitions.specs.Lent.{unlike}
 use Rattle.definitions.specs.SiteCalls.{ListingCells, listing_rooms, listable}
 use Rattle.laws.specs.Lists.{none_head, none_tail}
 use Rattle.laws.specs.Tests.{never}
-
--- one of four, as the code tests
-pub any-four : {A : Type 0} (t : A → Bool) (d : A) (l : List A) → length l ≡ 4 → any t l ≡ (t (get_or l 0 d) || (t (get_or l 1 d) || (t (get_or l 2 d) || t (get_or l 3 d))))
-unfolding any
-any-four t d [] e = absurd (omega arith)
-any-four t d (a ∷ []) e = absurd (omega arith)
-any-four t d (a ∷ b ∷ []) e = absurd (omega arith)
-any-four t d (a ∷ b ∷ c ∷ []) e = absurd (omega arith)
-any-four t d (a ∷ b ∷ c ∷ x ∷ _ ∷ _) e = absurd (omega arith)
-any-four t d (a ∷ b ∷ c ∷ x ∷ []) e = by (t a) (t b) (t c) (t x)
-  where
-    by : (p q r s : Bool) → elim p [ true ↦ true | false ↦ elim q [ true ↦ true | false ↦ elim r [ true ↦ true | false ↦ elim s [ true ↦ true | false ↦ false ] ] ] ] ≡ (p || (q || (r || s)))
-    by true q r s = refl
-    by false true r s = refl
-    by false false true s = refl
-    by false false false true = refl
-    by false false false false = refl
-
--- four that must not be: the first two are tested at once
-pub one_of_two : (a b c d : Bool) → (a || b) ≡ true → false ≡ (not a && not b && not c && not d)
-one_of_two true b c d e = refl
-one_of_two false true c d e = refl
-one_of_two false false c d e = absurd (never e)
-
-pub the_third : (a b c d : Bool) → c ≡ true → false ≡ (not a && not b && not c && not d)
-the_third true b c d e = refl
-the_third false true c d e = refl
-the_third false false true d e = refl
-the_third false false false d e = absurd (never e)
-
-pub the_last : (a b c d : Bool) → (a || b) ≡ false → c ≡ false → not d ≡ (not a && not b && not c && not d)
-the_last true b c d e f = absurd (never (sym e))
-the_last false true c d e f = absurd (never (sym e))
-the_last false false true d e f = absurd (never (sym f))
-the_last false false false d e f = refl
 
 none_of_four : (a b c d : Bool) → (not a && not b && not c && not d) ≡ true → (a ≡ false) × (b ≡ false) × (c ≡ false) × (d ≡ false)
 none_of_four false false false false e = (refl, refl, refl, refl)

@@ -1,5 +1,5 @@
 -- What the lists of copies come to: the step, and the call that finds the points.
-use Rattle.std.proofs.Common.{◌≡◌, ℕ, ◌-◌, ◌<◌, ◌≤◌, Bool, true, false, cond, List, [], ◌∷◌, ◌++◌, map, length, take, drop, replicate, ℤ, pos, sym, refl, ap, ◌∙◌, subst, arith, length-append, take_at}
+use Rattle.std.proofs.Common.{◌≡◌, ℕ, ◌-◌, ◌<◌, Bool, true, false, cond, List, [], ◌∷◌, ◌++◌, map, length, take, replicate, ℤ, pos, sym, refl, ap, ◌∙◌, subst, take_at}
 use mathlib.Core.List.{map-map, map-append}
 use lib.ListN.{length-map}
 use lib.Ieee.{Float}
@@ -11,13 +11,13 @@ use Rattle.definitions.specs.Matrix.{Matrix}
 use Rattle.definitions.specs.Real.{RealMatrix, inverse_of_c}
 use Rattle.definitions.specs.Refusal.{Condition, Checked, padded}
 use Rattle.definitions.specs.Cell.{listed_position, listed_positions, listed_points, site_mapping, listed_elements}
-use Rattle.definitions.specs.SiteCalls.{ListingCells, listing_rooms, HoldsListing, nothing_listed, listable, listing_at, listing_of}
+use Rattle.definitions.specs.SiteCalls.{Listing, ListingCells, listing_rooms, HoldsListing, nothing_listed, listable, listing_at, listing_of}
 use Rattle.definitions.specs.SiteCalls.{CopiesListed, list_conditions, IsListing, ListPromise}
 use Rattle.laws.specs.Verdicts.{promise_accepted, promise_refused}
 use Rattle.math_matrix.specs.Laws.{Three}
 use Rattle.base_transformation.specs.Answers.{points_of, Ended, Ready}
 use Rattle.base_transformation_laws.proofs.Covered.{run-points-count}
-use Rattle.base_transformation.specs.Runs.{run_cells}
+use Rattle.base_transformation.specs.Runs.{run_cells, lists}
 use Rattle.base_transformation.specs.Copied.{list_facts}
 use Rattle.base_transformation.proofs.Points.{run-points}
 use Rattle.base_transformation.proofs.Accepted.{ready_of}
@@ -61,15 +61,18 @@ module _ (c : Matrix) (fs : List (List ℤ)) (es : List ℤ) (ps : List (List Fl
   pub nothing-listed : can ≡ false → HoldsListing entry exit nothing_listed → CopiesListed c fs es ps entry exit
   nothing-listed h e = subst Left (sym h) e
 
+-- where the lists are given back as they were left
+module _ {entry : ListingCells} {a : Listing} {ps ps' : List (List Float)} {fs fs' : List (List ℤ)} {ms ms' : List ℕ} {es es' : List ℤ} where
+  pub given_back : HoldsListing entry (lists ps fs ms es) a → ps' ≡ ps → fs' ≡ fs → ms' ≡ ms → es' ≡ es → HoldsListing entry (lists ps' fs' ms' es') a
+  given_back h i j k l =
+      record { positions = i ∙ h.positions; points = j ∙ h.points; mapping = k ∙ h.mapping; elements = l ∙ h.elements }
+
 -- ---- the points that a list begins with
 
 module _ (fs l : List (List ℤ)) (n m : ℕ) (e : l ≡ padded zero_point fs n) (count : length fs ≡ m) where
-  pub front_fits : m ≤ length l
-  front_fits = omega (arith, ap length e ∙ length-append fs (replicate (n - length fs) zero_point), count)
-
   -- as the code lends them
-  pub front_is : take (m - 0) (drop 0 l) ≡ fs
-  front_is = let o : m - 0 ≡ m = omega arith in rw (e, o) (take_at fs (replicate (n - length fs) zero_point) m count)
+  pub front_is : take m l ≡ fs
+  front_is = rw e (take_at fs (replicate (n - length fs) zero_point) m count)
 
 -- ---- the call
 

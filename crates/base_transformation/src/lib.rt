@@ -13,16 +13,21 @@ ghost use Rattle.definitions.specs.Lent.{zero_point};
 ghost use Rattle.definitions.specs.Snf.{box, diagonal as diagonal_of};
 ghost use Rattle.definitions.specs.Limits.{in_range};
 ghost use Rattle.base_transformation.specs.Answers.{points_of};
-ghost use Rattle.base_transformation.specs.Answers.{Diagonalised, EndedIf, Ready};
+ghost use Rattle.base_transformation.specs.Answers.{Diagonalised, EndedOr, Ready};
 
-use checks::{copies, good_copies, in_range, magnitude16, unimodular};
+use checks::{copies, good_copies, in_range, unimodular};
 use definitions::limits::MOST_COPIES;
 use definitions::{Cofactors, Integers, Linear, Point, Rotation, SnfMatrix, Verdict, refusal};
-use lent::clear_points;
+use lent::{Zero, clear};
 use math_matrix::{apply, inverse, transform};
 use math_snf::snf;
 
-pub(crate) const ZERO: SnfMatrix = [[0, 0, 0], [0, 0, 0], [0, 0, 0]];
+// D and L of a diagonalisation, which the points are made of: R plays no part in them.
+#[derive(Clone, Copy)]
+pub(crate) struct Ends {
+    pub(crate) d: SnfMatrix,
+    pub(crate) l: SnfMatrix,
+}
 
 // ---- a rotation in another basis
 
@@ -51,8 +56,7 @@ pub fn transform_rotation(t: Linear, r: Rotation, out: &mut Integers) -> Verdict
             *out = transform(t, r);
         }
         Verdict::Refused(_) => {
-            let zero = [[0, 0, 0], [0, 0, 0], [0, 0, 0]];
-            *out = zero;
+            *out = Integers::ZERO;
         }
     }
     v
@@ -60,22 +64,12 @@ pub fn transform_rotation(t: Linear, r: Rotation, out: &mut Integers) -> Verdict
 
 // ---- points
 
-fn digit(x: usize) -> i16
-    requires { x < 64 }
-    ensures { result ≡ pos x }
-{
-    x as i16
-}
-
 // the vector at the place k, the last number fastest
 fn digits(k: usize, b: usize, c: usize) -> [i16; 3]
     requires { (k < 64) × (0 < b) × (0 < c) × (b * c ≤ 64) }
     ensures { result ≡ pos (k / (b * c)) ∷ pos (k / c % b) ∷ pos (k % c) ∷ [] }
 {
-    let f0 = digit(k / (b * c));
-    let f1 = digit(k / c % b);
-    let f2 = digit(k % c);
-    [f0, f1, f2]
+    [(k / (b * c)) as i16, (k / c % b) as i16, (k % c) as i16]
 }
 
 // how many there are
@@ -85,77 +79,72 @@ fn put_points(m: Cofactors, a: usize, b: usize, c: usize, out: &mut [Point]) -> 
         × (out.new ≡ map (apply_of m) (box a b c) ++ drop (a * b * c) out.old) }
 {
     let n = a * b * c;
-    let mut k: usize = 0;
-    while k < n {
+    for k in 0..n {
         let f = digits(k, b, c);
         out[k] = apply(m, f);
-        k += 1;
     }
     n
 }
 
 // the points and zero behind them
-pub(crate) fn list_points(d: SnfMatrix, l: SnfMatrix, out: &mut [Point])
-    requires { Ready d (length out.old) }
-    ensures { out.new ≡ padded zero_point (points_of d l) (length out.old) }
+pub(crate) fn list_points(ends: Ends, out: &mut [Point])
+    requires { Ready ends.d (length out.old) }
+    ensures { out.new ≡ padded zero_point (points_of ends.d ends.l) (length out.old) }
 {
-    let m = inverse(l);
-    let a = magnitude16(d[0][0]);
-    let b = magnitude16(d[1][1]);
-    let c = magnitude16(d[2][2]);
+    let m = inverse(ends.l);
+    let a = usize::from(ends.d[0][0].unsigned_abs());
+    let b = usize::from(ends.d[1][1].unsigned_abs());
+    let c = usize::from(ends.d[2][2].unsigned_abs());
     let n = put_points(m, a, b, c, out);
-    clear_points(out, n);
+    clear(out, n);
 }
 
-// ---- the verdict on the points
+// ---- the conditions of the points
 
-// whether the diagonalisation keeps within its range, with its D and L
-pub(crate) fn diagonalise(c: Linear, d: &mut SnfMatrix, l: &mut SnfMatrix) -> bool
+// D and L, where there are from 1 to 64 copies and the diagonalisation keeps within its range
+pub(crate) fn diagonalise(c: Linear) -> Result<Ends, usize>
     requires { in_range c ≡ true }
-    ensures { Diagonalised c d.new l.new result }
+    ensures { Diagonalised c result }
 {
-    let mut r = ZERO;
-    let v = snf(c, d, l, &mut r);
-    match v {
-        Verdict::Accepted => true,
-        Verdict::Refused(_) => false,
+    if !good_copies(c) {
+        return Err(refusal::DETERMINANT);
+    }
+    let mut d = SnfMatrix::ZERO;
+    let mut l = SnfMatrix::ZERO;
+    let mut r = SnfMatrix::ZERO;
+    match snf(c, &mut d, &mut l, &mut r) {
+        Verdict::Accepted => Ok(Ends { d, l }),
+        Verdict::Refused(_) => Err(refusal::DIAGONALISATION),
     }
 }
 
-fn points_verdict(c: Linear, room: usize, d: &mut SnfMatrix, l: &mut SnfMatrix) -> Verdict
-    ensures { (Checked (points_conditions c room) result) × (EndedIf c d.new l.new result) }
+fn diagonalise_for(c: Linear, room: usize) -> Result<Ends, usize>
+    ensures { EndedOr (points_conditions c room) c result }
 {
     if !in_range(c) {
-        return Verdict::Refused(refusal::MATRIX_ENTRY);
+        return Err(refusal::MATRIX_ENTRY);
     }
-    if !good_copies(c) {
-        return Verdict::Refused(refusal::DETERMINANT);
-    }
-    if !diagonalise(c, d, l) {
-        return Verdict::Refused(refusal::DIAGONALISATION);
-    }
+    let ends = diagonalise(c)?;
     if room < copies(c) {
-        return Verdict::Refused(refusal::BUFFER);
+        return Err(refusal::BUFFER);
     }
-    Verdict::Accepted
+    Ok(ends)
 }
 
 // L⁻¹f for each f below the diagonal of D, last fastest
 pub fn lattice_points(c: Linear, out: &mut [Point]) -> Verdict
     ensures { PointsPromise c out.old out.new result }
 {
-    let mut d = ZERO;
-    let mut l = ZERO;
-    let v = points_verdict(c, out.len(), &mut d, &mut l);
-    match v {
-        Verdict::Accepted => {
-            list_points(d, l, out);
+    match diagonalise_for(c, out.len()) {
+        Ok(ends) => {
+            list_points(ends, out);
+            Verdict::Accepted
         }
-        Verdict::Refused(_) => {
-            clear_points(out, 0);
+        Err(number) => {
+            clear(out, 0);
+            Verdict::Refused(number)
         }
     }
-    v
 }
 
 // ---- the invariant factors
@@ -163,26 +152,21 @@ pub fn lattice_points(c: Linear, out: &mut [Point]) -> Verdict
 fn diagonal(d: SnfMatrix) -> [i16; 3]
     ensures { result ≡ diagonal_of d }
 {
-    let first = d[0][0];
-    let second = d[1][1];
-    let third = d[2][2];
-    [first, second, third]
+    [d[0][0], d[1][1], d[2][2]]
 }
 
 // The diagonal of D, of C. There is room for any number of copies, so that 10 does not apply.
 pub fn invariant_factors(c: Linear, out: &mut [i16; 3]) -> Verdict
     ensures { FactorsPromise c out.new result }
 {
-    let mut d = ZERO;
-    let mut l = ZERO;
-    let v = points_verdict(c, MOST_COPIES, &mut d, &mut l);
-    match v {
-        Verdict::Accepted => {
-            *out = diagonal(d);
+    match diagonalise_for(c, MOST_COPIES) {
+        Ok(ends) => {
+            *out = diagonal(ends.d);
+            Verdict::Accepted
         }
-        Verdict::Refused(_) => {
+        Err(number) => {
             *out = [0, 0, 0];
+            Verdict::Refused(number)
         }
     }
-    v
 }

@@ -1,65 +1,40 @@
--- `list_sites`: the verdict is `list_verdict`'s, and the lists are listed or cleared.
-use Rattle.std.proofs.Common.{w8}
-use Rattle.definitions.specs.SiteCalls.{ListingCells}
+-- The lists are listed or cleared, as `diagonalise_for` says.
+use Rattle.std.proofs.Common.{ℕ, List, rules, subst, w8}
+use Rattle.definitions.specs.declared.Verdict.TheVariants.{Accepted, Refused}
+use Rattle.definitions.specs.Refusal.{Checked}
+use Rattle.definitions.specs.SiteCalls.{ListingCells, listing_rooms, list_conditions}
 use Rattle.math_matrix.proofs.Shape.{good_three}
-use Rattle.base_transformation.proofs.Listing.{listed_ready, keep-accepted, keep_refused}
+use Rattle.base_transformation.specs.Runs.{lists}
+use Rattle.base_transformation.proofs.Listing.{given_back, listed_ready, keep-accepted, keep_refused}
 use Rattle.base_transformation.proofs.cell.list_sites.Goals as goal
-use Rattle.base_transformation.proofs.cell.list_sites.Goals.{Start}
+use Rattle.base_transformation.proofs.cell.list_sites.Goals.{Start, In-Ok}
 
 abbrev lent : Start → ListingCells
-lent s =
-    record {
-      positions = s.args.out_positions.now;
-      points = s.args.out_points.now;
-      mapping = s.args.mapping.now;
-      elements = s.args.out_elements.now;
-    }
+lent s = let a = s.args in lists a.out_positions.now a.out_points.now a.mapping.now a.out_elements.now
+
+accepted : (c : In-Ok) → let s = (goal.at.In-Ok c).Start in let a = s.args in Checked (list_conditions a.c a.elements.now a.positions.now (listing_rooms (lent s))) Accepted
+accepted c =
+    let a = (goal.at.In-Ok c).Start.args in
+    subst (λ (r : List ℕ). Checked (list_conditions a.c a.elements.now a.positions.now r) Accepted) c.rooms.ensures c.in-Ok.ensures.0
 
 pub list_all-requires : goal.list_all-requires
 list_all-requires c =
-    let told = c.in-Accepted.is in
-    let v = c.list_verdict-v in
+    let x = c.in-Ok in
     let a = c.args in
-    let e = rw told at v.ensures in
-    listed_ready a.c a.elements.now a.positions.now (lent (goal.at.list_all-requires c).Start) e.0 (good_three w8 a.c c.well_formed.0)
-    v.new.d v.new.l e.1
+    let at = goal.at.list_all-requires c in
+    listed_ready a.c a.elements.now a.positions.now (lent at.Start) (accepted at.In-Ok) (good_three w8 a.c c.well_formed.0) x.ends.d x.ends.l x.ensures.1
 
-pub returns-in-Accepted : goal.returns-in-Accepted
-returns-in-Accepted c =
-    let list = c.list_all in
-    let told = c.in-Accepted.is in
-    let v = c.list_verdict-v in
+pub returns-in-Ok : goal.returns-in-Ok
+returns-in-Ok c =
+    let x = c.in-Ok in
     let a = c.args in
-    let e = rw told at v.ensures in
-    let exit : ListingCells =
-    record {
-      positions = list.new.out_positions;
-      points = list.new.out_points;
-      mapping = list.new.mapping;
-      elements = list.new.out_elements;
-    } in
-    rw told
-    (keep-accepted a.c a.elements.now a.positions.now (lent (goal.at.returns-in-Accepted c).Start) e.0 (good_three w8 a.c c.well_formed.0)
-    v.new.d v.new.l e.1 exit list.ensures)
+    let at = goal.at.returns-in-Ok c in
+    keep-accepted a.c a.elements.now a.positions.now (lent at.Start) (accepted at.In-Ok) (good_three w8 a.c c.well_formed.0) x.ends.d x.ends.l x.ensures.1 _
+    (given_back c.list_all.ensures.listed (search rules) (search rules) (search rules) (search rules))
 
-pub returns-in-Refused : goal.returns-in-Refused
-returns-in-Refused c =
-    let clear = c.clear_listing in
-    let told = c.in-Refused.is in
-    let v = c.list_verdict-v in
+pub returns-in-Err : goal.returns-in-Err
+returns-in-Err c =
     let a = c.args in
-    let e = rw told at v.ensures in
-    let exit : ListingCells =
-    record {
-      positions = clear.new.out_positions;
-      points = clear.new.out_points;
-      mapping = clear.new.mapping;
-      elements = clear.new.out_elements;
-    } in
-    rw told (keep_refused a.c a.elements.now a.positions.now (lent (goal.at.returns-in-Refused c).Start) _ exit e.0 clear.ensures)
-
-pub list_verdict-v-requires : goal.list_verdict-v-requires
-list_verdict-v-requires c = tt
-
-pub clear_listing-requires : goal.clear_listing-requires
-clear_listing-requires c = tt
+    let s = (goal.at.returns-in-Err c).Start in
+    let e = subst (λ (r : List ℕ). Checked (list_conditions a.c a.elements.now a.positions.now r) (Refused c.in-Err.number)) c.rooms.ensures c.in-Err.ensures in
+    keep_refused a.c a.elements.now a.positions.now (lent s) c.in-Err.number _ e (given_back c.clear.ensures.cleared (search rules) (search rules) (search rules) (search rules))

@@ -1,29 +1,15 @@
--- `short`: the lists are tested one after the other.
-use Rattle.std.proofs.Common.{◌≡◌, ℕ, Bool, ◌||◌, get_or, le-ltb, lt-ltb}
+-- What `Iterator::any` says of the list, in the definition's word.
+use mathlib.Core.Path.{◌∙◌}
+use borrow.Author.Rules.{rules}
+use borrow.Author.Tests.{tests}
+use Rattle.std.proofs.lemmas.Iterator.{YieldsList-from_slice}
+use Rattle.std.proofs.lemmas.Iterator.Search.{any_from_yields_List}
 use Rattle.definitions.specs.Limits.{shorter_than}
-use Rattle.definitions.specs.Lists.{any}
-use Rattle.base_transformation.proofs.Listable.{any-four}
+use Rattle.laws.specs.Lists.{list_any-is_any}
 use Rattle.base_transformation.proofs.cell.short.Goals as goal
-use Rattle.base_transformation.proofs.cell.short.Goals.{Start}
-
--- the tests that are made
-module _ (s : Start) where
-  abbrev is : ℕ → Bool
-  is i = shorter_than s.args.answer (get_or s.args.rooms i 0)
-
-  tests : any (shorter_than s.args.answer) s.args.rooms ≡ (is 0 || (is 1 || (is 2 || is 3)))
-  tests = any-four (shorter_than s.args.answer) 0 s.args.rooms s.well_formed.1.0.1.0.1
-
-pub returns-then-rooms-answer : goal.returns-then-rooms-answer
-returns-then-rooms-answer c = rw (tests (goal.at.returns-then-rooms-answer c).Start, lt-ltb _ _ c.if-rooms-answer.true)
-
-pub returns-then-rooms-answer-2 : goal.returns-then-rooms-answer-2
-returns-then-rooms-answer-2 c = rw (tests (goal.at.returns-then-rooms-answer-2 c).Start, le-ltb _ _ c.if-rooms-answer.false, lt-ltb _ _ c.if-rooms-answer-2.true)
-
-pub returns-then-rooms-answer-3 : goal.returns-then-rooms-answer-3
-returns-then-rooms-answer-3 c =
-    rw (tests (goal.at.returns-then-rooms-answer-3 c).Start, le-ltb _ _ c.if-rooms-answer.false, le-ltb _ _ c.if-rooms-answer-2.false, lt-ltb _ _ c.if-rooms-answer-3.true)
 
 pub returns : goal.returns
 returns c =
-    rw (tests (goal.at.returns c).Start, le-ltb _ _ c.if-rooms-answer.false, le-ltb _ _ c.if-rooms-answer-2.false, le-ltb _ _ c.if-rooms-answer-3.false)
+    let t = shorter_than c.args.answer in
+    any_from_yields_List t _ _ c.any.result c.any.ensures.ran (YieldsList-from_slice c.args.rooms cc) (λ x b q k. search (rules, tests))
+    ∙ list_any-is_any t c.args.rooms
