@@ -1,7 +1,7 @@
 -- The candidates of a list, one behind the other: the first refusal of all, and the spaces in the lent lists.
 use Prim.Native.Nat.{ℕ, suc, ◌+◌, ◌≤◌, ◌<◌}
 use mathlib.Core.Path.{◌≡◌, refl, sym, ap, subst, ◌∙◌}
-use mathlib.Core.Bool.{Bool, true, false, ◌||◌}
+use mathlib.Core.Bool.{Bool, true, false}
 use mathlib.Core.List.{List, [], ◌∷◌, ◌++◌, map, map-append, append_assoc}
 use mathlib.Core.Logic.{◌⊎◌, inl, inr, ⊎_elim}
 use native.Mathlib.Omega.{arith}
@@ -9,21 +9,22 @@ use native.Mathlib.Numerals.{add-one}
 use lib.Dec.{T}
 use lib.Ieee.{Float}
 use lib.ListN.{length, get_or, set, take, drop, length-set, length-append, length-map, length-take}
-use lib.Seq.{take-suc, take_all, drop-cons, set-append_seam}
+use lib.Seq.{take-suc, drop-cons, set-append_seam}
 use Rattle.definitions.specs.declared.Verdict.{Verdict}
 use Rattle.definitions.specs.declared.Verdict.TheVariants.{Accepted, Refused}
 use Rattle.definitions.specs.Lent.{position_from, cells_of}
 use Rattle.definitions.specs.Lists.{any, Some}
 use Rattle.definitions.specs.Refusal.{Condition, ◌when◌, coordinates, diagonalisation, Checked, Returns, Applies, upto, precedence}
 use Rattle.definitions.specs.Matrix.{Matrix}
-use Rattle.definitions.specs.SiteCalls.{SpaceCells, space_from, SpaceLent, PreparePromise}
+use Rattle.definitions.specs.SiteCalls.{SpaceCells, space_from, SpaceLent}
 use Rattle.definitions.specs.Snf.{State}
 use Rattle.definitions.specs.Standardize.{TextLeaves}
 use Rattle.definitions.specs.Coordinates.{Readable}
 use Rattle.definitions.specs.Wyckoff.{Space, IsSpace, AreSpaces}
 use Rattle.laws.specs.Order.{numbered, FailAll, past, FailBefore, past_before, applies_last}
 use Rattle.laws.specs.Verdicts.{HoldsAt, Passed, found_at_lem, found_none, refuse, accept, verdict_of}
-use Rattle.data_wyckoff.specs.Spaces.{PutSpace, put_at, first_of, texts_conditions, Stored, StoredSpaces, PutSpaces}
+use Rattle.data_wyckoff.specs.declared.space.Space as code
+use Rattle.data_wyckoff.specs.Spaces.{PreparesAs, written, PutSpace, put_at, first_of, texts_conditions, Stored, StoredSpaces, PutSpaces}
 
 -- ---- the refusals of one candidate or of several: 6 where P, 8 where Q
 
@@ -164,17 +165,19 @@ cells_back text m q s Accepted l = l.1
 cells_back text m q s (Refused k) l = subst (λ w. cells_of (position_from w) ≡ w) (sym l.1) refl
 
 pub put_one :
-    (text : List ℕ) (i : ℕ) (e y : SpaceCells) (m : Matrix) (q : List Float) (s : State) (v : Verdict) →
-    PreparePromise text m q s v → y.matrices ≡ set e.matrices i m → y.shifts ≡ set e.shifts i q →
-    y.ds ≡ set e.ds i s.d → y.ls ≡ set e.ls i s.l → y.rs ≡ set e.rs i s.r → PutSpace text i e y v
-put_one text i e y m q s v p em eq ed el er =
-    record { space = space_from m q s; checked = p.0; right = λ told. (subst (SpaceLent text m q s) told p.1).0; stored = all }
-  where
-    es : y.shifts ≡ set e.shifts i (cells_of (position_from q))
-    es = eq ∙ ap (set e.shifts i) (sym (cells_back text m q s v p.1))
-
-    all : y ≡ put_at e i (space_from m q s)
-    all = λ j. record { matrices = em j; shifts = es j; ds = ed j; ls = el j; rs = er j }
+    (text : List ℕ) (i : ℕ) (e y : SpaceCells) (s : code.Space) (v : Verdict) → PreparesAs text s v → y ≡ written e i s →
+    PutSpace text i e y v
+put_one text i e y s v p w =
+    let n : State = record { d = s.d; l = s.l; r = s.r } in
+    record {
+      space = space_from s.matrix s.shift n;
+      checked = p.0;
+      right = λ told. (subst (SpaceLent text s.matrix s.shift n) told p.1).0;
+      stored =
+          w
+          ∙ ap (λ q. written e i (record { matrix = s.matrix; shift = q; d = s.d; l = s.l; r = s.r }))
+          (sym (cells_back text s.matrix s.shift n v p.1));
+    }
 
 -- ---- the loop
 
@@ -218,27 +221,3 @@ put-more ts i e x y v w r h p q f =
     let n : length (take i ts) ≡ i = omega (arith, length-take i ts) in
     rw (add-one i, take-suc ts i [] h, f)
     (put_next (take i ts) (get_or ts i []) e x y v w p (subst (λ k. PutSpace (get_or ts i []) k x y w) (sym n) q))
-
-pub put_all :
-    (ts : List (List ℕ)) (i : ℕ) (e x : SpaceCells) (v : Verdict) → length ts ≤ i → PutSpaces (take i ts) e x v →
-    PutSpaces ts e x v
-put_all ts i e x v h = subst (λ l. PutSpaces l e x v) (take_all i ts h)
-
--- ---- room
-
-pub any-five :
-    {A : Type 0} (t : A → Bool) (a b c d e : A) →
-    (t a || t b || t c || t d || t e) ≡ any t (a ∷ b ∷ c ∷ d ∷ e ∷ [])
-unfolding any
-any-five t a b c d e = by (t a) (t b) (t c) (t d) (t e)
-  where
-    or : Bool → Bool → Bool
-    or x y = elim x [ true ↦ true | false ↦ y ]
-
-    by : (x y z u v : Bool) → (x || y || z || u || v) ≡ or x (or y (or z (or u (or v false))))
-    by true y z u v = refl
-    by false true z u v = refl
-    by false false true u v = refl
-    by false false false true v = refl
-    by false false false false true = refl
-    by false false false false false = refl

@@ -1,9 +1,9 @@
 -- The scan against the reader of trees: from byte to byte it has the sums of what the reader has as trees.
-use Rattle.std.specs.Prelude.{ℕ, zero, suc, ◌≡◌, Bool, true, false, not, cond, T, ℤ, pos, ◌+ℤ◌, Float}
+use Rattle.std.specs.Prelude.{ℕ, zero, suc, ◌≡◌, Bool, true, false, not, cond, T, ℤ, pos, ◌+ℤ◌, Float, Option, Some, None, option_and_then}
 use Rattle.std.proofs.Math.Path.{refl}
-use Rattle.std.proofs.Common.{sym, ◌∙◌, arith, lt-ltb, ne_eqb}
+use Rattle.std.proofs.Common.{sym, ap, ◌∙◌, arith, lt-ltb, ne_eqb}
 use mathlib.Core.List.{List, [], ◌∷◌, ◌++◌, map, foldl-append, map-append}
-use Rattle.std.proofs.Math.Option.{Option, none, some}
+use Rattle.std.proofs.Math.Option as Tokens
 use Rattle.std.proofs.Math.IntN.{+ℤ_idr}
 use Rattle.std.specs.Float.{binary64}
 use Rattle.std.specs.Float.Ieee.{add, div}
@@ -14,7 +14,7 @@ use Rattle.data_wyckoff_laws.specs.Sound.{token_sound}
 use Rattle.data_wyckoff.specs.declared.Last.{Last}
 use Rattle.data_wyckoff.specs.declared.Last.TheVariants.{Nothing, Sign, Digit, Slash, Ended}
 use Rattle.data_wyckoff.specs.declared.Partial.{Partial}
-use Rattle.data_wyckoff.specs.Scan.{outside, signed, plus_axis, plus_constant, after_token, after_any, step_of}
+use Rattle.data_wyckoff.specs.Scan.{signed, plus_axis, plus_constant, after_token, after_any, step_of}
 
 -- ---- the sums of trees
 
@@ -48,13 +48,13 @@ lead_of p l = record { last = p; x = lead_sum Axis.x l; y = lead_sum Axis.y l; z
 abbrev pub sums_of : Last → Term → Partial
 sums_of p t = record { last = p; x = coefficient Axis.x t; y = coefficient Axis.y t; z = coefficient Axis.z t; constant = constant t }
 
--- what the scan has where the reader has a state
-abbrev pub scanned : State → Partial
-scanned (State.due ts l) = lead_of (last_of l) l
-scanned (State.number ts l n) = lead_of (Digit (is_minus l) n) l
-scanned (State.over ts l n) = lead_of (Slash (is_minus l) n) l
-scanned (State.ended ts t) = sums_of Ended t
-scanned State.refused = outside
+-- what the scan has where the reader has a state: nothing where it has refused
+abbrev pub scanned : State → Option Partial
+scanned (State.due ts l) = Some (lead_of (last_of l) l)
+scanned (State.number ts l n) = Some (lead_of (Digit (is_minus l) n) l)
+scanned (State.over ts l n) = Some (lead_of (Slash (is_minus l) n) l)
+scanned (State.ended ts t) = Some (sums_of Ended t)
+scanned State.refused = None
 
 -- ---- one item more
 
@@ -163,15 +163,15 @@ is_comma Token.comma = true
 
 -- the scan follows the reader, and no term is ended
 abbrev pub Follows : (List Term → Type 0) → Token → State → Type 0
-Follows P c s = (after_token c (scanned s) ≡ scanned (on_token c s)) × Terms P (on_token c s)
+Follows P c s = (option_and_then (after_token c) (scanned s) ≡ scanned (on_token c s)) × Terms P (on_token c s)
 
 module _ (P : List Term → Type 0) where
   on_letter : (a : Axis) (s : State) → Terms P s → Follows P (Token.letter a) s
-  on_letter a (State.due ts Lead.bare) h = (axis_read Lead.bare Nothing a, h)
-  on_letter a (State.due ts Lead.dash) h = (axis_read Lead.dash (Sign true) a, h)
-  on_letter a (State.due ts (Lead.add t)) h = (axis_read (Lead.add t) (Sign false) a, h)
-  on_letter a (State.due ts (Lead.sub t)) h = (axis_read (Lead.sub t) (Sign true) a, h)
-  on_letter a (State.number ts l n) h = (times_read l (Digit (is_minus l) n) n a, h)
+  on_letter a (State.due ts Lead.bare) h = (ap Some (axis_read Lead.bare Nothing a), h)
+  on_letter a (State.due ts Lead.dash) h = (ap Some (axis_read Lead.dash (Sign true) a), h)
+  on_letter a (State.due ts (Lead.add t)) h = (ap Some (axis_read (Lead.add t) (Sign false) a), h)
+  on_letter a (State.due ts (Lead.sub t)) h = (ap Some (axis_read (Lead.sub t) (Sign true) a), h)
+  on_letter a (State.number ts l n) h = (ap Some (times_read l (Digit (is_minus l) n) n a), h)
   on_letter a (State.over ts l n) h = (refl, tt)
   on_letter a (State.ended ts t) h = (refl, tt)
   on_letter a State.refused h = (refl, tt)
@@ -184,7 +184,7 @@ module _ (P : List Term → Type 0) where
   on_digit k (State.number ts l n) h = (refl, tt)
   on_digit zero (State.over ts l n) h = (refl, tt)
   on_digit (suc k) (State.over ts l n) h =
-      rw (ne_eqb (suc k) 0 (λ e. omega arith), lt-ltb 0 (suc k) (omega arith)) (fraction_read l (Slash (is_minus l) n) n (suc k), h)
+      rw (ne_eqb (suc k) 0 (λ e. omega arith), lt-ltb 0 (suc k) (omega arith)) (ap Some (fraction_read l (Slash (is_minus l) n) n (suc k)), h)
   on_digit k (State.ended ts t) h = (refl, tt)
   on_digit k State.refused h = (refl, tt)
 
@@ -193,7 +193,7 @@ module _ (P : List Term → Type 0) where
   on_plus (State.due ts Lead.dash) h = (refl, tt)
   on_plus (State.due ts (Lead.add t)) h = (refl, tt)
   on_plus (State.due ts (Lead.sub t)) h = (refl, tt)
-  on_plus (State.number ts l n) h = (whole_read l (Digit (is_minus l) n) n (Sign false), h)
+  on_plus (State.number ts l n) h = (ap Some (whole_read l (Digit (is_minus l) n) n (Sign false)), h)
   on_plus (State.over ts l n) h = (refl, tt)
   on_plus (State.ended ts t) h = (refl, h)
   on_plus State.refused h = (refl, tt)
@@ -203,7 +203,7 @@ module _ (P : List Term → Type 0) where
   on_minus (State.due ts Lead.dash) h = (refl, tt)
   on_minus (State.due ts (Lead.add t)) h = (refl, tt)
   on_minus (State.due ts (Lead.sub t)) h = (refl, tt)
-  on_minus (State.number ts l n) h = (whole_read l (Digit (is_minus l) n) n (Sign true), h)
+  on_minus (State.number ts l n) h = (ap Some (whole_read l (Digit (is_minus l) n) n (Sign true)), h)
   on_minus (State.over ts l n) h = (refl, tt)
   on_minus (State.ended ts t) h = (refl, h)
   on_minus State.refused h = (refl, tt)
@@ -234,10 +234,14 @@ module _ (P : List Term → Type 0) where
   no_comma Token.slash n = tt
   no_comma Token.comma n = n refl
 
-  pub step_follows : (b : ℕ) (s : State) → (b ≡ 44 → ⊥) → Terms P s → (step_of (scanned s) b ≡ scanned (step s b)) × Terms P (step s b)
+  none_after : (o : Option Partial) → option_and_then (after_any Tokens.none) o ≡ None
+  none_after None = refl
+  none_after (Some t) = refl
+
+  pub step_follows : (b : ℕ) (s : State) → (b ≡ 44 → ⊥) → Terms P s → (option_and_then (λ t. step_of t b) (scanned s) ≡ scanned (step s b)) × Terms P (step s b)
   unfolding step_of step
   step_follows b s m h = by (token b) refl
     where
-      by : (o : Option Token) → token b ≡ o → (after_any o (scanned s) ≡ scanned (on o s)) × Terms P (on o s)
-      by none e = (refl, tt)
-      by (some c) e = follows c s (no_comma c (λ f. m ((token_sound b c e).0 ∙ f))) h
+      by : (o : Tokens.Option Token) → token b ≡ o → (option_and_then (after_any o) (scanned s) ≡ scanned (on o s)) × Terms P (on o s)
+      by Tokens.none e = (none_after (scanned s), tt)
+      by (Tokens.some c) e = follows c s (no_comma c (λ f. m ((token_sound b c e).0 ∙ f))) h

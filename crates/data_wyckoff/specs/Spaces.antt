@@ -1,33 +1,52 @@
 -- What the parts of the calls that prepare candidates promise: one candidate, one at its place of the lent lists, and
 -- the first ones of a list.
-use Rattle.std.specs.Prelude.{ℕ, ◌≤◌, ◌≡◌, Bool, cond, List, [], ◌∷◌, ◌++◌, map, ltb, length, set, take, drop, Float}
+use Rattle.std.specs.Prelude.{ℕ, ◌≤◌, ◌≡◌, Bool, cond, List, [], ◌∷◌, ◌++◌, map, min, length, set, take, drop, Result, Ok, Err}
 use Rattle.definitions.specs.declared.Verdict.{Verdict}
 use Rattle.definitions.specs.declared.Verdict.TheVariants.{Accepted, Refused}
-use Rattle.definitions.specs.Calls.{snf_conditions, IsSnf, zero_state}
 use Rattle.definitions.specs.Lent.{cells_of, zero_cells, zero_matrix}
 use Rattle.definitions.specs.Lists.{Some}
-use Rattle.definitions.specs.Matrix.{Matrix}
 use Rattle.definitions.specs.Refusal.{Condition, ◌when◌, coordinates, diagonalisation, Checked, padded}
-use Rattle.definitions.specs.SiteCalls.{prepare_conditions, prepare_all_conditions, SpaceCells, space_rooms}
-use Rattle.definitions.specs.Snf.{State}
+use Rattle.definitions.specs.SiteCalls.{prepare_conditions, prepare_all_conditions, SpaceCells, space_rooms, PreparePromise}
 use Rattle.definitions.specs.Standardize.{BadCoordinates, TextLeaves}
 use Rattle.definitions.specs.Wyckoff.{Space, IsSpace, AreSpaces}
+use Rattle.data_wyckoff.specs.declared.space.Space as code
+use Rattle.data_wyckoff.specs.declared.space.Spaces.{Spaces}
 
 -- ---- one candidate
 
--- A matrix and an origin, read, with the diagonalisation of the one: kept, or all zero.
-abbrev pub DiagonalisedLent : Matrix → List Float → Matrix → List Float → State → Verdict → Type 0
-DiagonalisedLent m q m' q' s Accepted = (m' ≡ m) × (q' ≡ q) × IsSnf m s
-DiagonalisedLent m q m' q' s (Refused k) = (m' ≡ zero_matrix) × (q' ≡ zero_cells) × (s ≡ zero_state)
+-- a candidate as the code has it, prepared: or zero and refused
+abbrev pub PreparesAs : List ℕ → code.Space → Verdict → Type 0
+PreparesAs text s = PreparePromise text s.matrix s.shift (record { d = s.d; l = s.l; r = s.r })
 
-abbrev pub Diagonalised : Matrix → List Float → Matrix → List Float → State → Verdict → Type 0
-Diagonalised m q m' q' s v = Checked (snf_conditions m) v × DiagonalisedLent m q m' q' s v
+abbrev pub SpaceOr : List ℕ → Result code.Space ℕ → Type 0
+SpaceOr text (Ok s) = PreparesAs text s Accepted
+SpaceOr text (Err k) = Checked (prepare_conditions text) (Refused k)
 
 -- ---- a list of candidates
 
 -- five lists as they are lent
-abbrev pub cells_in : List Matrix → List (List Float) → List Matrix → List Matrix → List Matrix → SpaceCells
-cells_in ms qs ds ls rs = record { matrices = ms; shifts = qs; ds = ds; ls = ls; rs = rs }
+abbrev pub lists : Spaces → SpaceCells
+lists s = record { matrices = s.matrices.now; shifts = s.shifts.now; ds = s.ds.now; ls = s.ls.now; rs = s.rs.now }
+
+-- .. and they are the same lists
+abbrev pub SameLists : Spaces → Spaces → Type 0
+SameLists s t =
+    (t.matrices.ghost_name ≡ s.matrices.ghost_name)
+    × (t.shifts.ghost_name ≡ s.shifts.ghost_name)
+    × (t.ds.ghost_name ≡ s.ds.ghost_name)
+    × (t.ls.ghost_name ≡ s.ls.ghost_name)
+    × (t.rs.ghost_name ≡ s.rs.ghost_name)
+
+-- what the code writes at place i of each list, where the list is so long
+abbrev pub written : SpaceCells → ℕ → code.Space → SpaceCells
+written e i s =
+    record {
+      matrices = set e.matrices i s.matrix;
+      shifts = set e.shifts i s.shift;
+      ds = set e.ds i s.d;
+      ls = set e.ls i s.l;
+      rs = set e.rs i s.r;
+    }
 
 -- a space at place i of each list, where the list is so long
 abbrev pub put_at : SpaceCells → ℕ → Space → SpaceCells
@@ -51,7 +70,7 @@ pub record PutSpace (text : List ℕ) (i : ℕ) (entry exit : SpaceCells) (v : V
 abbrev pub first_of : Verdict → Verdict → Verdict
 first_of Accepted w = w
 first_of (Refused j) Accepted = Refused j
-first_of (Refused j) (Refused k) = Refused (cond (ltb k j) k j)
+first_of (Refused j) (Refused k) = Refused (min j k)
 
 -- what the candidates alone decide: 6, 8
 abbrev pub texts_conditions : List (List ℕ) → List Condition

@@ -1,10 +1,11 @@
 -- The scan of three terms is the reader's tree: its rows, its origin and its range; where it finds no term or leaves
--- the range, no tree in range is read.
-use Rattle.std.specs.Prelude.{ℕ, suc, ◌+◌, ◌≤◌, ◌≡◌, Bool, true, false, not, ◌&&◌, T, eqb, ℤ, pos, drop, Float}
+-- the range, it has nothing, and no tree in range is read.
+use Rattle.std.specs.Prelude.{ℕ, suc, ◌+◌, ◌≤◌, ◌≡◌, Bool, true, false, not, ◌&&◌, T, eqb, ℤ, pos, cond, drop, Float, Option, Some, None, option_and_then}
 use Rattle.std.proofs.Math.Path.{refl, ap}
 use Rattle.std.proofs.Common.{sym, ◌∙◌, subst, arith, length-append, drop_of_length-le, drop-drop, eqb-true, eq-eqb, ne_eqb}
 use mathlib.Core.List.{List, [], ◌∷◌, ◌++◌, foldl}
-use Rattle.std.proofs.Math.Option.{Option, none, some}
+use Rattle.std.proofs.Math.Option as Tokens
+use Rattle.std.proofs.Math.Option.{none, some}
 use Rattle.std.proofs.Math.ListN.{length}
 use Rattle.std.proofs.Math.Seq.{drop-append-add}
 use Rattle.std.proofs.lemmas.Bool.{eqb-false}
@@ -12,40 +13,40 @@ use Rattle.definitions.specs.Lists.{all, those}
 use Rattle.definitions.specs.Matrix.{Matrix}
 use Rattle.definitions.specs.Coordinates.{Axis, Item, Term, Triplet, coefficient, term_row, rows, origin_of, in_range, spaceless, Reads, Readable}
 use Rattle.definitions.specs.Lent.{cells_of}
-use Rattle.laws.specs.Lists.{three-cons}
 use Rattle.data_wyckoff_laws.specs.Reader.{Token, Lead, State, token, close, at_end, on_token, on, step, triplet, finish, parse}
 use Rattle.data_wyckoff_laws.specs.Reading.{parse_reads, unreadable_none, unreadable_range}
 use Rattle.data_wyckoff.specs.declared.Last.TheVariants.{Digit, Ended}
+use Rattle.data_wyckoff.specs.declared.Partial.{Partial}
 use Rattle.data_wyckoff.specs.declared.Row.{Row}
-use Rattle.data_wyckoff.specs.Scan.{step_of, small, kept, no_row, row_of, end_of, term_from, term_at}
+use Rattle.data_wyckoff.specs.Scan.{step_of, small, kept, row_of, end_of, term_from, term_at}
 use Rattle.data_wyckoff.specs.Scanned.{is_minus, sums_of, scanned, whole_read, Terms, follows, step_follows}
-use Rattle.laws.specs.Tests.{true_of, both_pass}
 use Rattle.laws.specs.Lists.{all_three}
 
 -- ---- the end of a term
 
 -- the term that a state has read whole, if it has
-abbrev whole_term : State → Option Term
+abbrev whole_term : State → Tokens.Option Term
 whole_term = at_end none (λ ts t. some t)
 
-abbrev row_at : Option Term → ℕ → Row
-row_at none j = no_row j
-row_at (some t) j = row_of (sums_of Ended t) j
+abbrev row_at : Tokens.Option Term → ℕ → Option Row
+row_at none j = None
+row_at (some t) j = Some (row_of (sums_of Ended t) j)
 
-abbrev with_term : Option Term → (Term → Option Triplet) → Option Triplet
+abbrev with_term : Tokens.Option Term → (Term → Tokens.Option Triplet) → Tokens.Option Triplet
 with_term none f = none
 with_term (some t) f = f t
 
 -- what the reader makes of the terms ts and the bytes behind their commas
-abbrev after : List Term → List ℕ → Option Triplet
+abbrev after : List Term → List ℕ → Tokens.Option Triplet
 after ts bs = finish (foldl step (State.due ts Lead.bare) (spaceless bs))
 
-end_scanned : (s : State) (j : ℕ) → end_of (scanned s) j ≡ row_at (whole_term s) j
+end_scanned : (s : State) (j : ℕ) → option_and_then (λ t. end_of t j) (scanned s) ≡ row_at (whole_term s) j
 end_scanned (State.due ts Lead.bare) j = refl
 end_scanned (State.due ts Lead.dash) j = refl
 end_scanned (State.due ts (Lead.add t)) j = refl
 end_scanned (State.due ts (Lead.sub t)) j = refl
-end_scanned (State.number ts l n) j = ap (λ p. row_of p j) (whole_read l (Digit (is_minus l) n) n Ended)
+end_scanned (State.number ts l n) j =
+    ap (λ p. Some (row_of p j)) (whole_read l (Digit (is_minus l) n) n Ended)
 end_scanned (State.over ts l n) j = refl
 end_scanned (State.ended ts t) j = refl
 end_scanned State.refused j = refl
@@ -57,7 +58,7 @@ finish_term ts (State.over us l n) e = refl
 finish_term ts (State.ended us t) e = rw e
 finish_term ts State.refused e = refl
 
-refused_once : (o : Option Token) → on o State.refused ≡ State.refused
+refused_once : (o : Tokens.Option Token) → on o State.refused ≡ State.refused
 refused_once none = refl
 refused_once (some (Token.letter a)) = refl
 refused_once (some (Token.digit n)) = refl
@@ -85,13 +86,13 @@ at_comma ts State.refused v e = ap finish (refused_on (spaceless v))
 -- Of the bytes bs, at the place i of the text, behind what the state s has read: the row of the term that ends at the
 -- first comma or at the end, and what the
 -- reader makes of the whole.
-data Read (ts : List Term) (s : State) (bs : List ℕ) (i : ℕ) (r : Row) : Type 0 where
-  last : (o : Option Term) → r ≡ row_at o (i + length bs) →
+data Read (ts : List Term) (s : State) (bs : List ℕ) (i : ℕ) (r : Option Row) : Type 0 where
+  last : (o : Tokens.Option Term) → r ≡ row_at o (i + length bs) →
       finish (foldl step s (spaceless bs)) ≡ with_term o (λ t. triplet (ts ++ (t ∷ []))) → Read ts s bs i r
-  more : (o : Option Term) (u v : List ℕ) → bs ≡ u ++ 44 ∷ v → r ≡ row_at o (i + length u) →
+  more : (o : Tokens.Option Term) (u v : List ℕ) → bs ≡ u ++ 44 ∷ v → r ≡ row_at o (i + length u) →
       finish (foldl step s (spaceless bs)) ≡ with_term o (λ t. after (ts ++ (t ∷ [])) v) → Read ts s bs i r
 
-module _ (ts : List Term) (s q : State) (b : ℕ) (bs : List ℕ) (i : ℕ) (r : Row) where
+module _ (ts : List Term) (s q : State) (b : ℕ) (bs : List ℕ) (i : ℕ) (r : Option Row) where
   one_more : foldl step s (spaceless (b ∷ bs)) ≡ foldl step q (spaceless bs) → Read ts q bs (suc i) r → Read ts s (b ∷ bs) i r
   one_more w (last o e f) =
       let n : suc i + length bs ≡ i + suc (length bs) = omega arith in
@@ -104,20 +105,32 @@ no_space : (b : ℕ) (bs : List ℕ) → eqb b 32 ≡ false → spaceless (b ∷
 unfolding those
 no_space b bs f = ap (λ (s : Bool). elim (not s) as (λ (u : Bool). List ℕ) [ true ↦ b ∷ spaceless bs | false ↦ spaceless bs ]) f
 
-read_on : (bs : List ℕ) (i : ℕ) (ts : List Term) (s : State) → Terms (λ us. us ≡ ts) s → Read ts s bs i (term_from i (scanned s) bs)
-unfolding term_from those step_of
+-- what the scan has, on to the end of the term
+abbrev row_from : ℕ → List ℕ → Option Partial → Option Row
+row_from i bs = option_and_then (λ t. term_from i t bs)
+
+row_on : (i b : ℕ) (bs : List ℕ) (o : Option Partial) → eqb b 44 ≡ false → eqb b 32 ≡ false →
+    row_from (suc i) bs (option_and_then (λ t. step_of t b) o) ≡ row_from i (b ∷ bs) o
+unfolding term_from
+row_on i b bs None e f = refl
+row_on i b bs (Some t) e f = rw (e, f)
+
+read_on : (bs : List ℕ) (i : ℕ) (ts : List Term) (s : State) → Terms (λ us. us ≡ ts) s → Read ts s bs i (row_from i bs (scanned s))
+unfolding term_from those
 read_on [] i ts s h = let n : i ≡ i + 0 = omega arith in last (whole_term s) (end_scanned s i ∙ ap (row_at (whole_term s)) n) (finish_term ts s h)
 read_on (b ∷ bs) i ts s h = by (eqb b 44) (eqb b 32) refl refl (λ q k. read_on bs (suc i) ts q k)
   where
-    by : (p q : Bool) → eqb b 44 ≡ p → eqb b 32 ≡ q → ((q : State) → Terms (λ us. us ≡ ts) q → Read ts q bs (suc i) (term_from (suc i) (scanned q) bs)) →
-        Read ts s (b ∷ bs) i (term_from i (scanned s) (b ∷ bs))
+    by : (p q : Bool) → eqb b 44 ≡ p → eqb b 32 ≡ q → ((q : State) → Terms (λ us. us ≡ ts) q → Read ts q bs (suc i) (row_from (suc i) bs (scanned q))) →
+        Read ts s (b ∷ bs) i (row_from i (b ∷ bs) (scanned s))
     by true q e f rest =
         let n : i ≡ i + 0 = omega arith in
         rw (eqb-true b 44 e) (more (whole_term s) [] bs refl (end_scanned s i ∙ ap (row_at (whole_term s)) n) (at_comma ts s bs h))
     by false true e f rest = rw (eqb-true b 32 f) (one_more ts s s 32 bs i _ refl (rest s h))
     by false false e f rest =
-        let k : (step_of (scanned s) b ≡ scanned (step s b)) × Terms (λ us. us ≡ ts) (step s b) = step_follows (λ us. us ≡ ts) b s (eqb-false b 44 e) h in
-        one_more ts s (step s b) b bs i _ (ap (foldl step s) (no_space b bs f)) (rw (e, f, k.0) (rest (step s b) k.1))
+        let k : (option_and_then (λ t. step_of t b) (scanned s) ≡ scanned (step s b)) × Terms (λ us. us ≡ ts) (step s b) =
+        step_follows (λ us. us ≡ ts) b s (eqb-false b 44 e) h in
+        one_more ts s (step s b) b bs i _ (ap (foldl step s) (no_space b bs f))
+        (subst (Read ts (step s b) bs (suc i)) (sym (ap (row_from (suc i) bs) k.0) ∙ row_on i b bs (scanned s) e f) (rest (step s b) k.1))
 
 -- ---- three terms and no more
 
@@ -142,7 +155,7 @@ long_comma (State.over ts l n) h = tt
 long_comma (State.ended ts t) h = long_snoc ts t h
 long_comma State.refused h = tt
 
-long_token : (o : Option Token) (s : State) → Terms Long s → Terms Long (on o s)
+long_token : (o : Tokens.Option Token) (s : State) → Terms Long s → Terms Long (on o s)
 long_token none s h = tt
 long_token (some (Token.letter a)) s h = (follows Long (Token.letter a) s tt h).1
 long_token (some (Token.digit n)) s h = (follows Long (Token.digit n) s tt h).1
@@ -165,89 +178,88 @@ long_on (b ∷ bs) s h = long_on bs (step s b) (long_token (token b) s h)
 
 -- ---- the answer
 
--- what the code's three rows say, of a text of n bytes
-abbrev pub good_rows : Row → Row → Row → ℕ → Bool
-good_rows a b c n = a.good && b.good && c.good && eqb c.end n
+-- a row's three coefficients, each in range
+abbrev pub entries_of : Row → Option (List ℤ)
+entries_of a =
+    option_and_then (λ x. option_and_then (λ y. option_and_then (λ z. Some (x ∷ y ∷ z ∷ [])) (kept a.z)) (kept a.y)) (kept a.x)
 
-abbrev pub entries_of : Row → List ℤ
-entries_of a = a.x ∷ a.y ∷ a.z ∷ []
+-- three rows as a matrix and an origin
+abbrev pub coordinates_of : Row → Row → Row → Option (Matrix × List Float)
+coordinates_of a b c =
+    option_and_then (λ p. option_and_then (λ q. option_and_then (λ r. Some (p ∷ q ∷ r ∷ [], a.constant ∷ b.constant ∷ c.constant ∷ []))
+    (entries_of c)) (entries_of b)) (entries_of a)
 
-abbrev pub matrix_of : Row → Row → Row → Matrix
-matrix_of a b c = entries_of a ∷ entries_of b ∷ entries_of c ∷ []
+-- the third term ends with the text
+abbrev pub with_third : List ℕ → Row → Row → Row → Option (Matrix × List Float)
+with_third text a b c = cond (eqb c.end (length text)) (coordinates_of a b c) None
 
-abbrev pub constants_of : Row → Row → Row → List Float
-constants_of a b c = a.constant ∷ b.constant ∷ c.constant ∷ []
+abbrev pub with_second : List ℕ → Row → Row → Option (Matrix × List Float)
+with_second text a b = option_and_then (with_third text a b) (term_at text (b.end + 1))
 
-pub data Answer (text : List ℕ) (a b c : Row) : Type 0 where
-  read : (t : Triplet) → parse (spaceless text) ≡ some t → good_rows a b c (length text) ≡ in_range t →
-      (T (good_rows a b c (length text)) → (matrix_of a b c ≡ rows t) × (constants_of a b c ≡ cells_of (origin_of t))) → Answer text a b c
-  unread : parse (spaceless text) ≡ none → good_rows a b c (length text) ≡ false → Answer text a b c
+abbrev pub with_first : List ℕ → Row → Option (Matrix × List Float)
+with_first text a = option_and_then (with_second text a) (term_at text (a.end + 1))
 
--- conjunctions with a part that is known
-second_fails : (p r s : Bool) → (p && false && r && s) ≡ false
-second_fails true r s = refl
-second_fails false r s = refl
+-- what the code reads of a text
+unfoldable pub coordinates_in : List ℕ → Option (Matrix × List Float)
+coordinates_in text = option_and_then (with_first text) (term_at text 0)
 
-third_fails : (p q s : Bool) → (p && q && false && s) ≡ false
-third_fails true true s = refl
-third_fails true false s = refl
-third_fails false q s = refl
+abbrev cells_in_range : Triplet → Option (Matrix × List Float)
+cells_in_range t = cond (in_range t) (Some (rows t, cells_of (origin_of t))) None
 
-and_false : (p : Bool) → (p && false) ≡ false
-and_false true = refl
-and_false false = refl
+data Answer (text : List ℕ) (o : Option (Matrix × List Float)) : Type 0 where
+  read : (t : Triplet) → parse (spaceless text) ≡ some t → o ≡ cells_in_range t → Answer text o
+  unread : parse (spaceless text) ≡ none → o ≡ None → Answer text o
 
-and-true : (p : Bool) → (p && true) ≡ p
-and-true true = refl
-and-true false = refl
-
--- an entry in range is kept
-kept_small : (e : ℤ) → T (small e) → kept e ≡ e
-kept_small e h = rw (true_of (small e) h)
-
-row_kept : (t : Term) (j : ℕ) → T (row_at (some t) j).good → entries_of (row_at (some t) j) ≡ term_row t
-row_kept t j h =
+-- the entries of a term's row
+entries_at : (t : Term) (j : ℕ) → entries_of (row_of (sums_of Ended t) j) ≡ cond (all small (term_row t)) (Some (term_row t)) None
+entries_at t j =
     let x = coefficient Axis.x t in
     let y = coefficient Axis.y t in
     let z = coefficient Axis.z t in
-    let p = both_pass (small x && small y) (small z) h in
-    let q = both_pass (small x) (small y) p.0 in
-    three-cons (kept_small x q.0) (kept_small y q.1) (kept_small z p.1)
-
-row_good : (t : Term) (j : ℕ) → (row_at (some t) j).good ≡ all small (term_row t)
-row_good t j = all_three small (pos 0) (term_row t) refl
+    by (small x) (small y) (small z) ∙ ap (λ p. cond p (Some (term_row t)) None) (all_three small (pos 0) (term_row t) refl)
+  where
+    by : (p q r : Bool) →
+        option_and_then (λ x. option_and_then (λ y. option_and_then (λ z. Some (x ∷ y ∷ z ∷ []))
+        (cond r (Some (coefficient Axis.z t)) None)) (cond q (Some (coefficient Axis.y t)) None)) (cond p (Some (coefficient Axis.x t)) None)
+        ≡ cond (p && q && r) (Some (term_row t)) None
+    by true true true = refl
+    by true true false = refl
+    by true false r = refl
+    by false q r = refl
 
 abbrev three : Term → Term → Term → Triplet
 three t u v = record { first = t; second = u; third = v }
 
 module _ (t u v : Term) (j k n : ℕ) where
-  good_range : good_rows (row_at (some t) j) (row_at (some u) k) (row_at (some v) n) n ≡ in_range (three t u v)
-  unfolding in_range
-  good_range =
-      rw (eq-eqb n n refl, and-true, row_good t j, row_good u k, row_good v n)
-      (all_three (all small) [] (term_row t ∷ term_row u ∷ term_row v ∷ []) refl)
+  in_rows : coordinates_of (row_of (sums_of Ended t) j) (row_of (sums_of Ended u) k) (row_of (sums_of Ended v) n) ≡ cells_in_range (three t u v)
+  unfolding in_range rows origin_of
+  in_rows =
+      let a = term_row t in
+      let b = term_row u in
+      let c = term_row v in
+      rw (entries_at t j, entries_at u k, entries_at v n)
+      (by (all small a) (all small b) (all small c)
+      ∙ ap (λ p. cond p (Some (a ∷ b ∷ c ∷ [], cells_of (origin_of (three t u v)))) None) (all_three (all small) [] (a ∷ b ∷ c ∷ []) refl))
+    where
+      by : (p q r : Bool) →
+          option_and_then {U = Matrix × List Float} (λ x. option_and_then {U = Matrix × List Float} (λ y. option_and_then {U = Matrix × List Float} (λ z. Some (x ∷ y ∷ z ∷ [], cells_of (origin_of (three t u v))))
+          (cond r (Some (term_row v)) None)) (cond q (Some (term_row u)) None)) (cond p (Some (term_row t)) None)
+          ≡ cond (p && q && r) (Some (term_row t ∷ term_row u ∷ term_row v ∷ [], cells_of (origin_of (three t u v)))) None
+      by true true true = refl
+      by true true false = refl
+      by true false r = refl
+      by false q r = refl
 
-  rows-kept : T (good_rows (row_at (some t) j) (row_at (some u) k) (row_at (some v) n) n) →
-      (matrix_of (row_at (some t) j) (row_at (some u) k) (row_at (some v) n) ≡ rows (three t u v))
-      × (constants_of (row_at (some t) j) (row_at (some u) k) (row_at (some v) n) ≡ cells_of (origin_of (three t u v)))
-  unfolding rows origin_of
-  rows-kept h =
-      let a = (row_at (some t) j).good in
-      let b = (row_at (some u) k).good in
-      let c = (row_at (some v) n).good in
-      let p = both_pass (a && b && c) (eqb n n) h in
-      let q = both_pass (a && b) c p.0 in
-      let r = both_pass a b q.0 in
-      (three-cons (row_kept t j r.0) (row_kept u k r.1) (row_kept v n q.1), refl)
-
--- a row's end is where it was read to
-end_at : (o : Option Term) (j : ℕ) → (row_at o j).end ≡ j
-end_at none j = refl
-end_at (some t) j = refl
-
-none_or_none : {f : Term → Option Triplet} → ((t : Term) → f t ≡ none) → (o : Option Term) → with_term o f ≡ none
+none_or_none : {f : Term → Tokens.Option Triplet} → ((t : Term) → f t ≡ none) → (o : Tokens.Option Term) → with_term o f ≡ none
 none_or_none h none = refl
 none_or_none h (some t) = h t
+
+-- a row behind which there is nothing to read
+row_or_none :
+    (f : Row → Option (Matrix × List Float)) (j : ℕ) → ((t : Term) → f (row_of (sums_of Ended t) j) ≡ None) →
+    (o : Tokens.Option Term) → option_and_then f (row_at o j) ≡ None
+row_or_none f j h none = refl
+row_or_none f j h (some t) = h t
 
 module _ (text : List ℕ) where
   -- the bytes from a place on, and those behind a comma in them
@@ -266,7 +278,7 @@ module _ (text : List ℕ) where
           ∙ ap (drop (length u + 1)) (r.is ∙ e)
           ∙ drop-append-add u (44 ∷ v) 1
 
-  past_end : (i : ℕ) → length text ≤ i → term_at text i ≡ no_row i
+  past_end : (i : ℕ) → length text ≤ i → term_at text i ≡ None
   unfolding term_from
   past_end i h = rw (drop_of_length-le text h)
 
@@ -274,27 +286,26 @@ module _ (text : List ℕ) where
   term_read {i} {bs} r ts = rw r.is (read_on bs i ts (State.due ts Lead.bare) refl)
 
   -- behind two terms
-  third : (t u : Term) (j k i : ℕ) (bs : List ℕ) → Rest i bs → (c : Row) → parse (spaceless text) ≡ after (t ∷ u ∷ []) bs →
-      Read (t ∷ u ∷ []) (State.due (t ∷ u ∷ []) Lead.bare) bs i c → Answer text (row_at (some t) j) (row_at (some u) k) c
-  third t u j k i bs r c p (last none e f) = unread (p ∙ f) (rw e (third_fails (row_at (some t) j).good (row_at (some u) k).good _))
+  third : (t u : Term) (j k i : ℕ) (bs : List ℕ) → Rest i bs → (c : Option Row) → parse (spaceless text) ≡ after (t ∷ u ∷ []) bs →
+      Read (t ∷ u ∷ []) (State.due (t ∷ u ∷ []) Lead.bare) bs i c →
+      Answer text (option_and_then (with_third text (row_of (sums_of Ended t) j) (row_of (sums_of Ended u) k)) c)
+  third t u j k i bs r c p (last none e f) = unread (p ∙ f) (rw e)
   third t u j k i bs r c p (last (some v) e f) =
-      rw (e, r.size) (read (three t u v) (p ∙ f) (good_range t u v j k (length text)) (rows-kept t u v j k (length text)))
-  third t u j k i bs r c p (more o w v e g f) = unread (p ∙ f ∙ none_or_none (λ s. long_on (spaceless v) (State.due (t ∷ u ∷ s ∷ []) Lead.bare) (omega arith)) o)
-      (rw (g, short) (and_false ((row_at (some t) j).good && (row_at (some u) k).good && (row_at o (i + length w)).good)))
+      rw (e, r.size) (read (three t u v) (p ∙ f) (rw (eq-eqb (length text) (length text) refl) (in_rows t u v j k (length text))))
+  third t u j k i bs r c p (more o w v e g f) =
+      unread (p ∙ f ∙ none_or_none (λ s. long_on (spaceless v) (State.due (t ∷ u ∷ s ∷ []) Lead.bare) (omega arith)) o)
+      (rw g (row_or_none _ (i + length w) (λ s. rw short) o))
     where
-      short : eqb (row_at o (i + length w)).end (length text) ≡ false
-      short = rw (end_at o (i + length w)) (ne_eqb (i + length w) (length text) (λ n. omega (arith, r.size, ap length e, length-append w (44 ∷ v))))
+      short : eqb (i + length w) (length text) ≡ false
+      short = ne_eqb (i + length w) (length text) (λ n. omega (arith, r.size, ap length e, length-append w (44 ∷ v)))
 
   -- behind one term
-  second : (t : Term) (j i : ℕ) (bs : List ℕ) → Rest i bs → (b : Row) → parse (spaceless text) ≡ after (t ∷ []) bs →
-      Read (t ∷ []) (State.due (t ∷ []) Lead.bare) bs i b → Answer text (row_at (some t) j) b (term_at text (b.end + 1))
-  second t j i bs r b p (last o e f) = unread (p ∙ f ∙ none_or_none (λ s. refl) o) (rw (past_end (b.end + 1) beyond) (third_fails (row_at (some t) j).good b.good _))
-    where
-      beyond : length text ≤ b.end + 1
-      beyond = omega (arith, r.size, ap (λ (a : Row). a.end) e ∙ end_at o (i + length bs))
-  second t j i bs r b p (more none u v e g f) =
-      let c = term_at text (i + length u + 1) in
-      unread (p ∙ f) (rw g (second_fails (row_at (some t) j).good c.good (eqb c.end (length text))))
+  second : (t : Term) (j i : ℕ) (bs : List ℕ) → Rest i bs → (b : Option Row) → parse (spaceless text) ≡ after (t ∷ []) bs →
+      Read (t ∷ []) (State.due (t ∷ []) Lead.bare) bs i b → Answer text (option_and_then (with_second text (row_of (sums_of Ended t) j)) b)
+  second t j i bs r b p (last o e f) =
+      unread (p ∙ f ∙ none_or_none (λ s. refl) o)
+      (rw e (row_or_none _ (i + length bs) (λ s. rw (past_end (i + length bs + 1) (omega (arith, r.size)))) o))
+  second t j i bs r b p (more none u v e g f) = unread (p ∙ f) (rw g)
   second t j i bs r b p (more (some w) u v e g f) =
       let q = rest_on r u v e in
       rw g (third t w j (i + length u) (i + length u + 1) v q (term_at text (i + length u + 1)) (p ∙ f) (term_read q (t ∷ w ∷ [])))
@@ -302,26 +313,29 @@ module _ (text : List ℕ) where
   all-bytes : Rest 0 text
   all-bytes = record { is = refl; size = omega arith }
 
-  first : (a : Row) → Read [] (State.due [] Lead.bare) text 0 a → Answer text a (term_at text (a.end + 1)) (term_at text ((term_at text (a.end + 1)).end + 1))
+  first : (a : Option Row) → Read [] (State.due [] Lead.bare) text 0 a → Answer text (option_and_then (with_first text) a)
   unfolding parse
-  first a (last o e f) = unread (f ∙ none_or_none (λ s. refl) o) (rw (past_end (a.end + 1) beyond) (second_fails a.good _ _))
-    where
-      beyond : length text ≤ a.end + 1
-      beyond = omega (arith, ap (λ (r : Row). r.end) e ∙ end_at o (0 + length text))
+  first a (last o e f) =
+      unread (f ∙ none_or_none (λ s. refl) o)
+      (rw e (row_or_none _ (0 + length text) (λ s. rw (past_end (0 + length text + 1) (omega arith))) o))
   first a (more none u v e g f) = unread f (rw g)
   first a (more (some w) u v e g f) =
       let q = rest_on all-bytes u v e in
       rw g (second w (0 + length u) (0 + length u + 1) v q (term_at text (0 + length u + 1)) f (term_read q (w ∷ [])))
 
-  pub answer : Answer text (term_at text 0) (term_at text ((term_at text 0).end + 1)) (term_at text ((term_at text ((term_at text 0).end + 1)).end + 1))
-  answer = first (term_at text 0) (term_read all-bytes [])
+-- what was read is the rows and the origin of the tree that the text reads as, in range; else there is none
+abbrev pub ReadAs : List ℕ → Option (Matrix × List Float) → Type 0
+ReadAs text None = Readable text → ⊥
+ReadAs text (Some a) = (t : Triplet) × Reads text t × T (in_range t) × (a.0 ≡ rows t) × (a.1 ≡ cells_of (origin_of t))
 
-module _ {text : List ℕ} {a b c : Row} where
-  pub accepted : Answer text a b c → T (good_rows a b c (length text)) →
-      (t : Triplet) × Reads text t × T (in_range t) × (matrix_of a b c ≡ rows t) × (constants_of a b c ≡ cells_of (origin_of t))
-  accepted (read t p g w) h = (t, parse_reads text t p, subst T g h, (w h).0, (w h).1)
-  accepted (unread p g) h = absurd (subst T g h)
+answered : (text : List ℕ) (o : Option (Matrix × List Float)) → Answer text o → ReadAs text o
+answered text o (unread p g) = subst (ReadAs text) (sym g) (unreadable_none text p)
+answered text o (read t p g) = subst (ReadAs text) (sym g) (by (in_range t) refl)
+  where
+    by : (b : Bool) → in_range t ≡ b → ReadAs text (cond b (Some (rows t, cells_of (origin_of t))) None)
+    by true e = (t, parse_reads text t p, subst T (sym e) tt, refl, refl)
+    by false e = unreadable_range text t p (subst (λ b. T (not b)) (sym e) tt)
 
-  pub refused : Answer text a b c → good_rows a b c (length text) ≡ false → Readable text → ⊥
-  refused (read t p g w) h = unreadable_range text t p (subst (λ x. T (not x)) (sym h ∙ g) tt)
-  refused (unread p g) h = unreadable_none text p
+pub read_as : (text : List ℕ) → ReadAs text (coordinates_in text)
+unfolding coordinates_in
+read_as text = answered text (coordinates_in text) (first text (term_at text 0) (term_read text (all-bytes text) []))

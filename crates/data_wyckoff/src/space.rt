@@ -1,51 +1,72 @@
 // moyo's `WyckoffPositionSpace` with the `SNF::new` of its linear part: a candidate made ready for every position.
-ghost use Rattle.std.specs.Prelude.{◌≡◌, cond, [], ◌∷◌, ltb, set};
-ghost use Rattle.definitions.specs.Lent.{zero_matrix};
+ghost use Rattle.std.specs.Prelude.{◌≡◌, set};
+ghost use Rattle.std.specs.List.{list_any};
 ghost use Rattle.definitions.specs.Limits.{shorter_than};
-ghost use Rattle.definitions.specs.Lists.{any};
-ghost use Rattle.definitions.specs.SiteCalls.{PreparePromise, PrepareAllPromise};
-ghost use Rattle.data_wyckoff.specs.Spaces.{Diagonalised, cells_in, PutSpace, first_of};
+ghost use Rattle.definitions.specs.SiteCalls.{PreparePromise, PrepareAllPromise, space_rooms};
+ghost use Rattle.data_wyckoff.specs.Spaces.{SpaceOr, PreparesAs, lists, SameLists, written, PutSpace, first_of};
 ghost use Rattle.data_wyckoff.specs.Spaces.{PutSpaces, with_room, Judged, Cut};
 
-use crate::read_coordinates;
+use crate::read_terms;
 use definitions::limits::MOST_CANDIDATES;
 use definitions::{Cells, Rotation, SnfMatrix, Text, Verdict, refusal};
-use lent::{clear_cells, clear_rotations};
+use lent::clear;
 use math_snf::snf;
 
 // ---- one candidate
 
-// M, read, and D, L, R of it. Where they are refused M and q are of no use.
-fn diagonalise(
-    matrix: &mut Rotation,
-    shift: &mut Cells,
-    d: &mut SnfMatrix,
-    l: &mut SnfMatrix,
-    r: &mut SnfMatrix,
-) -> Verdict
-    ensures { Diagonalised matrix.old shift.old matrix.new shift.new
-        (record { d = d.new; l = l.new; r = r.new }) result }
+// A candidate's M and q with D, L and R of M: one preparation serves every position.
+#[derive(Clone, Copy)]
+struct Space {
+    matrix: Rotation,
+    shift: Cells,
+    d: SnfMatrix,
+    l: SnfMatrix,
+    r: SnfMatrix,
+}
+
+// M and q, read, and D, L, R of M; or the number of what refuses them
+fn read_space(text: &Text) -> Result<Space, usize>
+    ensures { SpaceOr text.now result }
 {
-    let v = snf(*matrix, d, l, r);
-    match v {
-        Verdict::Accepted => {}
-        Verdict::Refused(_) => {
-            *matrix = [[0; 3]; 3];
-            *shift = [0.0; 3];
+    let Some(read) = read_terms(*text) else {
+        return Err(refusal::COORDINATES);
+    };
+    let (matrix, shift) = read;
+    let mut d = [[0; 3]; 3];
+    let mut l = [[0; 3]; 3];
+    let mut r = [[0; 3]; 3];
+    match snf(matrix, &mut d, &mut l, &mut r) {
+        Verdict::Accepted => Ok(Space {
+            matrix,
+            shift,
+            d,
+            l,
+            r,
+        }),
+        Verdict::Refused(k) => Err(k),
+    }
+}
+
+// What the caller's lists and matrices are to hold: zero where it is refused.
+fn lent_space(text: &Text) -> (Space, Verdict)
+    ensures { PreparesAs text.now result.0 result.1 }
+{
+    match read_space(text) {
+        Ok(space) => (space, Verdict::Accepted),
+        Err(k) => {
+            let zero = Space {
+                matrix: [[0; 3]; 3],
+                shift: [0.0; 3],
+                d: [[0; 3]; 3],
+                l: [[0; 3]; 3],
+                r: [[0; 3]; 3],
+            };
+            (zero, Verdict::Refused(k))
         }
     }
-    v
 }
 
-fn clear_snf(d: &mut SnfMatrix, l: &mut SnfMatrix, r: &mut SnfMatrix)
-    ensures { (d.new ≡ zero_matrix) × (l.new ≡ zero_matrix) × (r.new ≡ zero_matrix) }
-{
-    *d = [[0; 3]; 3];
-    *l = [[0; 3]; 3];
-    *r = [[0; 3]; 3];
-}
-
-// A candidate's M and q with D, L and R of M: one preparation serves every position.
+// A candidate, for the caller's five matrices.
 pub fn prepare(
     text: &Text,
     matrix: &mut Rotation,
@@ -57,78 +78,32 @@ pub fn prepare(
     ensures { PreparePromise text.now matrix.new shift.new
         (record { d = d.new; l = l.new; r = r.new }) result }
 {
-    let read = read_coordinates(text, matrix, shift);
-    match read {
-        Verdict::Accepted => diagonalise(matrix, shift, d, l, r),
-        Verdict::Refused(_) => {
-            clear_snf(d, l, r);
-            Verdict::Refused(refusal::COORDINATES)
-        }
-    }
+    let (space, verdict) = lent_space(text);
+    let Space {
+        matrix: linear,
+        shift: origin,
+        d: diagonal,
+        l: left,
+        r: right,
+    } = space;
+    *matrix = linear;
+    *shift = origin;
+    *d = diagonal;
+    *l = left;
+    *r = right;
+    verdict
 }
 
 // ---- a list of candidates
 
-// A list may be too short: that is refused in the end, and no place is written that is not there.
-fn put_rotation(out: &mut [Rotation], i: usize, m: Rotation)
-    ensures { out.new ≡ set out.old i m }
+// A list may be too short: that is refused in the end, and no place is written that is not there. By a test and an
+// index: of a slice behind `get_mut` no proof knows the elements.
+fn put<T: Copy>(out: &mut [T], i: usize, x: T)
+    ensures { out.new ≡ set out.old i x }
 {
     if i < out.len() {
-        out[i] = m;
+        out[i] = x;
     }
-}
-
-fn put_cells(out: &mut [Cells], i: usize, q: Cells)
-    ensures { out.new ≡ set out.old i q }
-{
-    if i < out.len() {
-        out[i] = q;
-    }
-}
-
-fn put_snf(out: &mut [SnfMatrix], i: usize, m: SnfMatrix)
-    ensures { out.new ≡ set out.old i m }
-{
-    if i < out.len() {
-        out[i] = m;
-    }
-}
-
-// The candidate at place i.
-fn put_space(
-    text: &Text,
-    i: usize,
-    matrices: &mut [Rotation],
-    shifts: &mut [Cells],
-    ds: &mut [SnfMatrix],
-    ls: &mut [SnfMatrix],
-    rs: &mut [SnfMatrix],
-) -> Verdict
-    ensures { PutSpace text.now i
-        (cells_in matrices.old shifts.old ds.old ls.old rs.old)
-        (cells_in matrices.new shifts.new ds.new ls.new rs.new) result }
-{
-    let mut m = [[0; 3]; 3];
-    let mut q = [0.0; 3];
-    let mut d = [[0; 3]; 3];
-    let mut l = [[0; 3]; 3];
-    let mut r = [[0; 3]; 3];
-    let v = prepare(text, &mut m, &mut q, &mut d, &mut l, &mut r);
-    put_rotation(matrices, i, m);
-    put_cells(shifts, i, q);
-    put_snf(ds, i, d);
-    put_snf(ls, i, l);
-    put_snf(rs, i, r);
-    v
-}
-
-fn lower(j: usize, k: usize) -> usize
-    ensures { result ≡ cond (ltb k j) k j }
-{
-    if k < j {
-        return k;
-    }
-    j
 }
 
 fn first_of(v: Verdict, w: Verdict) -> Verdict
@@ -138,38 +113,16 @@ fn first_of(v: Verdict, w: Verdict) -> Verdict
         Verdict::Accepted => w,
         Verdict::Refused(j) => match w {
             Verdict::Accepted => Verdict::Refused(j),
-            Verdict::Refused(k) => Verdict::Refused(lower(j, k)),
+            Verdict::Refused(k) => Verdict::Refused(j.min(k)),
         },
     }
 }
 
-// A later candidate may have a lower number: each is prepared, and once.
-fn put_spaces(
-    texts: &[Text],
-    matrices: &mut [Rotation],
-    shifts: &mut [Cells],
-    ds: &mut [SnfMatrix],
-    ls: &mut [SnfMatrix],
-    rs: &mut [SnfMatrix],
-) -> Verdict
-    ensures { PutSpaces texts.now
-        (cells_in matrices.old shifts.old ds.old ls.old rs.old)
-        (cells_in matrices.new shifts.new ds.new ls.new rs.new) result }
+// a list of five has no room for n
+fn lack_room(n: usize, rooms: [usize; 5]) -> bool
+    ensures { result ≡ list_any (shorter_than n) rooms }
 {
-    let mut v = Verdict::Accepted;
-    let mut i: usize = 0;
-    while i < texts.len() {
-        let w = put_space(&texts[i], i, matrices, shifts, ds, ls, rs);
-        v = first_of(v, w);
-        i += 1;
-    }
-    v
-}
-
-fn lacks_room(n: usize, a: usize, b: usize, c: usize, d: usize, e: usize) -> bool
-    ensures { result ≡ any (shorter_than n) (a ∷ b ∷ c ∷ d ∷ e ∷ []) }
-{
-    (a < n) | (b < n) | (c < n) | (d < n) | (e < n)
+    rooms.iter().any(|room| *room < n)
 }
 
 fn with_room(v: Verdict, short: bool) -> Verdict
@@ -186,51 +139,85 @@ fn with_room(v: Verdict, short: bool) -> Verdict
     }
 }
 
-// 2, 6, 8, 10
-fn judge(
-    texts: &[Text],
-    matrices: &mut [Rotation],
-    shifts: &mut [Cells],
-    ds: &mut [SnfMatrix],
-    ls: &mut [SnfMatrix],
-    rs: &mut [SnfMatrix],
-) -> Verdict
-    ensures { Judged texts.now
-        (cells_in matrices.old shifts.old ds.old ls.old rs.old)
-        (cells_in matrices.new shifts.new ds.new ls.new rs.new) result }
-{
-    if MOST_CANDIDATES < texts.len() {
-        return Verdict::Refused(refusal::COUNTS);
-    }
-    let v = put_spaces(texts, matrices, shifts, ds, ls, rs);
-    let short = lacks_room(
-        texts.len(),
-        matrices.len(),
-        shifts.len(),
-        ds.len(),
-        ls.len(),
-        rs.len(),
-    );
-    with_room(v, short)
+// The five lists that a caller lends: an entry a candidate in each.
+#[derive(Drop)]
+struct Spaces<'a> {
+    matrices: &'a mut [Rotation],
+    shifts: &'a mut [Cells],
+    ds: &'a mut [SnfMatrix],
+    ls: &'a mut [SnfMatrix],
+    rs: &'a mut [SnfMatrix],
 }
 
-fn clear_spaces(
-    matrices: &mut [Rotation],
-    shifts: &mut [Cells],
-    ds: &mut [SnfMatrix],
-    ls: &mut [SnfMatrix],
-    rs: &mut [SnfMatrix],
-    n: usize,
-)
-    ensures { Cut n
-        (cells_in matrices.old shifts.old ds.old ls.old rs.old)
-        (cells_in matrices.new shifts.new ds.new ls.new rs.new) }
-{
-    clear_rotations(matrices, n);
-    clear_cells(shifts, n);
-    lent::clear_snf(ds, n);
-    lent::clear_snf(ls, n);
-    lent::clear_snf(rs, n);
+impl<'a> Spaces<'a> {
+    fn put(&mut self, i: usize, space: Space)
+        ensures stored { lists self.new ≡ written (lists self.old) i space }
+        ensures same_lists { SameLists self.old self.new }
+    {
+        put(self.matrices, i, space.matrix);
+        put(self.shifts, i, space.shift);
+        put(self.ds, i, space.d);
+        put(self.ls, i, space.l);
+        put(self.rs, i, space.r);
+    }
+
+    // The candidate at place i.
+    fn prepare(&mut self, i: usize, text: &Text) -> Verdict
+        ensures stored { PutSpace text.now i (lists self.old) (lists self.new) result }
+        ensures same_lists { SameLists self.old self.new }
+    {
+        let (space, verdict) = lent_space(text);
+        self.put(i, space);
+        verdict
+    }
+
+    // A later candidate may have a lower number: each is prepared, and once.
+    fn prepare_each(&mut self, texts: &[Text]) -> Verdict
+        ensures stored { PutSpaces texts.now (lists self.old) (lists self.new) result }
+        ensures same_lists { SameLists self.old self.new }
+    {
+        let mut v = Verdict::Accepted;
+        for (i, text) in texts.iter().enumerate() {
+            let w = self.prepare(i, text);
+            v = first_of(v, w);
+        }
+        v
+    }
+
+    fn rooms(&self) -> [usize; 5]
+        ensures { result ≡ space_rooms (lists self.now) }
+    {
+        [
+            self.matrices.len(),
+            self.shifts.len(),
+            self.ds.len(),
+            self.ls.len(),
+            self.rs.len(),
+        ]
+    }
+
+    // 2, 6, 8, 10
+    fn judge(&mut self, texts: &[Text]) -> Verdict
+        ensures judged { Judged texts.now (lists self.old) (lists self.new) result }
+        ensures same_lists { SameLists self.old self.new }
+    {
+        if MOST_CANDIDATES < texts.len() {
+            return Verdict::Refused(refusal::COUNTS);
+        }
+        let v = self.prepare_each(texts);
+        with_room(v, lack_room(texts.len(), self.rooms()))
+    }
+
+    fn clear(&mut self, n: usize)
+        ensures cut { Cut n (lists self.old) (lists self.new) }
+        ensures same_lists { SameLists self.old self.new }
+    {
+        clear(self.matrices, n);
+        clear(self.shifts, n);
+        clear(self.ds, n);
+        clear(self.ls, n);
+        clear(self.rs, n);
+    }
 }
 
 // Every candidate of a list, once for all positions: an entry a candidate in each of the five lists.
@@ -258,14 +245,17 @@ pub fn prepare_all(
           rs = rs.new;
         }) result }
 {
-    let v = judge(texts, matrices, shifts, ds, ls, rs);
+    let mut spaces = Spaces {
+        matrices,
+        shifts,
+        ds,
+        ls,
+        rs,
+    };
+    let v = spaces.judge(texts);
     match v {
-        Verdict::Accepted => {
-            clear_spaces(matrices, shifts, ds, ls, rs, texts.len());
-        }
-        Verdict::Refused(_) => {
-            clear_spaces(matrices, shifts, ds, ls, rs, 0);
-        }
+        Verdict::Accepted => spaces.clear(texts.len()),
+        Verdict::Refused(_) => spaces.clear(0),
     }
     v
 }
