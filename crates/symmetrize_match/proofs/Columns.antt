@@ -1,6 +1,6 @@
 -- Offsets in columns: from M·y of each to the match.
 use Prim.Native.Nat.{ℕ, ◌<◌}
-use mathlib.Core.Path.{◌≡◌, refl, sym, ap, ◌∙◌, subst}
+use mathlib.Core.Path.{◌≡◌, refl, sym, ap, ◌∙◌}
 use mathlib.Core.Bool.{Bool, true, false, ◌&&◌}
 use mathlib.Core.List.{List, []}
 use lib.ListN.{get_or, replicate, length-replicate, get_or-replicate}
@@ -8,24 +8,16 @@ use lib.Ieee.{Float, nan, eq}
 use Rattle.definitions.specs.declared.Position.{Position}
 use Rattle.definitions.specs.Real.{RealMatrix, zero_f, origin, apply_f, add_p, sub_p}
 use Rattle.laws.specs.Tests.{never}
-use Rattle.symmetrize_match.specs.Match.{RealSpace, zero_diagonal, quotient_real, divided_real, moved_real, residual_real, square, square_real}
+use Rattle.symmetrize_match.specs.declared.RealSpace.{RealSpace}
+use Rattle.symmetrize_match.specs.Match.{zero_diagonal, quotient_real, divided_real, moved_real, residual_real, square, square_real}
 use Rattle.symmetrize_match.specs.Match.{Column, Columns, cell, row_times}
 
 pub same-column : {n : ℕ} {f g : ℕ → Float} {l : List Float} → ((i : ℕ) → i < n → f i ≡ g i) → Column n f l → Column n g l
 same-column e c = record { long = c.long; each = λ i h. c.each i h ∙ e i h }
 
--- a length by another name
-pub as_long : {m n : ℕ} {f : ℕ → Float} {l : List Float} → m ≡ n → Column m f l → Column n f l
-as_long {f = f} {l = l} e = subst (λ n. Column n f l) e
-
-pub as_longs : {m n : ℕ} {f : ℕ → Position} {xs ys zs : List Float} → m ≡ n → Columns m f xs ys zs → Columns n f xs ys zs
-as_longs {f = f} {xs = xs} {ys = ys} {zs = zs} e = subst (λ n. Columns n f xs ys zs) e
-
-pub zeros : (n : ℕ) → Columns n (λ i. origin) (replicate n zero_f) (replicate n zero_f) (replicate n zero_f)
-zeros n = record { x = one; y = one; z = one }
-  where
-    one : Column n (λ i. zero_f) (replicate n zero_f)
-    one = record { long = length-replicate n zero_f; each = λ i h. get_or-replicate n i zero_f nan h }
+-- one number at every place
+pub alike : (n : ℕ) (v : Float) → Column n (λ i. v) (replicate n v)
+alike n v = record { long = length-replicate n v; each = λ i h. get_or-replicate n i v nan h }
 
 -- columns at a place
 pub at_place : (n : ℕ) (f : ℕ → Position) (xs ys zs : List Float) → Columns n f xs ys zs → (i : ℕ) → i < n → cell xs ys zs i ≡ f i

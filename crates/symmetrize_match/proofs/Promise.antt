@@ -1,14 +1,9 @@
--- A space's whole numbers in floats, and how the promise of the match of one position with one candidate is kept.
-use Prim.Native.Nat.{ℕ, ◌<◌, ◌^◌}
-use mathlib.Core.Path.{◌≡◌, refl, ap, subst, ◌∙◌}
+-- How the promise of the match of one position with one candidate is kept.
+use Prim.Native.Nat.{ℕ}
+use mathlib.Core.Path.{◌≡◌, refl, subst}
 use mathlib.Core.Bool.{Bool, true, false, not, ◌||◌}
 use mathlib.Core.List.{List}
-use native.Mathlib.Omega.{arith}
 use lib.Ieee.{Float}
-use lib.IntN.{ℤ}
-use lib.Signed.{mag}
-use mir.Syntax.{w16}
-use mir.Val.{hbits, to_z, of_z}
 use Rattle.definitions.specs.declared.Match.{Match}
 use Rattle.definitions.specs.declared.Matching.TheVariants as matching
 use Rattle.definitions.specs.declared.Position.{Position}
@@ -17,7 +12,7 @@ use Rattle.definitions.specs.declared.Verdict.TheVariants.{Accepted, Refused}
 use Rattle.definitions.specs.Coordinates.{Readable}
 use Rattle.definitions.specs.Limits.{lattice_within, position_within, good_symprec}
 use Rattle.definitions.specs.Matrix.{Matrix}
-use Rattle.definitions.specs.Real.{RealMatrix, real_of, real}
+use Rattle.definitions.specs.Real.{RealMatrix}
 use Rattle.definitions.specs.Refusal.{Checked}
 use Rattle.definitions.specs.SiteCalls.{match_conditions, MatchPromise, PreparePromise, SpaceLent, space_from}
 use Rattle.definitions.specs.Snf.{State}
@@ -25,26 +20,7 @@ use Rattle.definitions.specs.Standardize.{TextLeaves}
 use Rattle.definitions.specs.Wyckoff.{Space, IsSpace, match_of}
 use Rattle.laws.specs.Tests.{so, not_so}
 use Rattle.laws.specs.Verdicts.{HoldsAt, Passed, found_at_lem, found_none, refuse, accept, verdict_of, refused_with_lem, accepted_with}
-use Rattle.math_matrix.specs.Bounds.{mag_abs, back}
 use Rattle.data_wyckoff.proofs.Listed.{Found, neither, six, eight, found}
-use Rattle.symmetrize_match.specs.Match.{Counted, CountedDiagonal, space_of, diagonal_of, match_real, match_is}
-
--- ---- a prepared space in floats
-
--- an entry of 16 bits, as it is read
-pub counted : (e : ℤ) → mag e < 2 ^ hbits w16 → Counted e
-counted e h = let k : mag e < 32768 = h in omega (arith, mag_abs e)
-
-pub real_back : (r : Float) (e : ℤ) → r ≡ real_of (to_z w16 (of_z w16 e)) → mag e < 2 ^ hbits w16 → r ≡ real_of e
-real_back r e h k = h ∙ ap real_of (back w16 e k)
-
-pub matched :
-    (basis : RealMatrix) (symprec : Float) (m l r : RealMatrix) (q d p : Position) (s : Space) →
-    CountedDiagonal s.snf.d → m ≡ real s.matrix → q ≡ s.shift → d ≡ diagonal_of s.snf.d →
-    l ≡ real s.snf.l → r ≡ real s.snf.r →
-    match_real basis symprec (space_of m q d l r) p ≡ match_of basis symprec s p
-matched basis symprec m l r q d p s c em eq ed el er =
-    (λ i. match_real basis symprec (space_of (em i) (eq i) (ed i) (el i) (er i)) p) ∙ match_is s c basis symprec p
 
 -- ---- the promise
 

@@ -8,16 +8,18 @@ use lib.ListN.{length, get_or, take, drop, length-map, take-append-drop}
 use lib.IntN.{ℤ}
 use native.Mathlib.Omega.{arith}
 use lib.Seq.{ext_get_or}
-use lib.Ieee.{Float, nan, binary64, of_bits, of_int, round}
+use lib.Ieee.{Float, nan, binary64, neg, of_bits, of_int, round}
 use Rattle.definitions.specs.declared.Position.{Position}
 use Rattle.definitions.specs.declared.Match.{Match}
 use Rattle.definitions.specs.declared.Match.TheVariants.{Fits, Misses}
 use Rattle.definitions.specs.Lists.{all, each, those}
-use Rattle.definitions.specs.Real.{RealMatrix, zero_f, one_f, origin}
+use Rattle.definitions.specs.Real.{RealMatrix, origin}
 use Rattle.definitions.specs.Cell.{point_of}
 use Rattle.definitions.specs.Wyckoff.{offsets}
 use Rattle.laws.specs.Lists.{map_at}
-use Rattle.symmetrize_match.specs.Match.{RealSpace, square_real, squares_real, match_real, first_near, Column, cell, NearColumn}
+use Rattle.symmetrize_match.specs.declared.offsets.TheConstants.{INNER, OUTER}
+use Rattle.symmetrize_match.specs.declared.RealSpace.{RealSpace}
+use Rattle.symmetrize_match.specs.Match.{square_real, squares_real, match_real, first_near, Column, cell, NearColumn}
 use Rattle.symmetrize_match.proofs.Near.{append_fits, append_misses}
 
 -- ---- three lists side by side
@@ -41,70 +43,15 @@ points_at (x ∷ xs) (y ∷ ys) (z ∷ zs) (suc i) h = points_at xs ys zs i (le_
 
 -- ---- the tables
 
-abbrev minus_two : Float
-minus_two = of_bits binary64 0xC000000000000000
-
 abbrev minus_one : Float
 minus_one = of_bits binary64 0xBFF0000000000000
 
-abbrev two : Float
-two = of_bits binary64 0x4000000000000000
-
-abbrev pub inner_x : List Float
-inner_x =
-    minus_one ∷ minus_one ∷ minus_one ∷ minus_one ∷ minus_one ∷ minus_one ∷ minus_one ∷ minus_one ∷ zero_f ∷ zero_f ∷ zero_f ∷
-    zero_f ∷ zero_f ∷ zero_f ∷ zero_f ∷ zero_f ∷ zero_f ∷ one_f ∷ one_f ∷ one_f ∷ one_f ∷ one_f ∷ one_f ∷ one_f ∷ one_f ∷ one_f ∷ []
-
-abbrev pub inner_y : List Float
-inner_y =
-    minus_one ∷ minus_one ∷ zero_f ∷ zero_f ∷ zero_f ∷ one_f ∷ one_f ∷ one_f ∷ minus_one ∷ minus_one ∷ minus_one ∷ zero_f ∷
-    zero_f ∷ zero_f ∷ one_f ∷ one_f ∷ one_f ∷ minus_one ∷ minus_one ∷ minus_one ∷ zero_f ∷ zero_f ∷ zero_f ∷ one_f ∷ one_f ∷
-    one_f ∷ []
-
-abbrev pub inner_z : List Float
-inner_z =
-    zero_f ∷ one_f ∷ minus_one ∷ zero_f ∷ one_f ∷ minus_one ∷ zero_f ∷ one_f ∷ minus_one ∷ zero_f ∷ one_f ∷ minus_one ∷ zero_f ∷
-    one_f ∷ minus_one ∷ zero_f ∷ one_f ∷ minus_one ∷ zero_f ∷ one_f ∷ minus_one ∷ zero_f ∷ one_f ∷ minus_one ∷ zero_f ∷ one_f ∷ []
-
-abbrev pub outer_x : List Float
-outer_x =
-    minus_two ∷ minus_two ∷ minus_two ∷ minus_two ∷ minus_two ∷ minus_two ∷ minus_two ∷ minus_two ∷ minus_two ∷ minus_two ∷
-    minus_two ∷ minus_two ∷ minus_two ∷ minus_two ∷ minus_two ∷ minus_two ∷ minus_two ∷ minus_two ∷ minus_two ∷ minus_two ∷
-    minus_two ∷ minus_two ∷ minus_two ∷ minus_two ∷ minus_two ∷ minus_one ∷ minus_one ∷ minus_one ∷ minus_one ∷ minus_one ∷
-    minus_one ∷ minus_one ∷ minus_one ∷ minus_one ∷ minus_one ∷ minus_one ∷ minus_one ∷ minus_one ∷ minus_one ∷ minus_one ∷
-    minus_one ∷ zero_f ∷ zero_f ∷ zero_f ∷ zero_f ∷ zero_f ∷ zero_f ∷ zero_f ∷ zero_f ∷ zero_f ∷ zero_f ∷ zero_f ∷ zero_f ∷
-    zero_f ∷ zero_f ∷ zero_f ∷ zero_f ∷ one_f ∷ one_f ∷ one_f ∷ one_f ∷ one_f ∷ one_f ∷ one_f ∷ one_f ∷ one_f ∷ one_f ∷ one_f ∷
-    one_f ∷ one_f ∷ one_f ∷ one_f ∷ one_f ∷ two ∷ two ∷ two ∷ two ∷ two ∷ two ∷ two ∷ two ∷ two ∷ two ∷ two ∷ two ∷ two ∷
-    two ∷ two ∷ two ∷ two ∷ two ∷ two ∷ two ∷ two ∷ two ∷ two ∷ two ∷ two ∷ []
-
-abbrev pub outer_y : List Float
-outer_y =
-    minus_two ∷ minus_two ∷ minus_two ∷ minus_two ∷ minus_two ∷ minus_one ∷ minus_one ∷ minus_one ∷ minus_one ∷ minus_one ∷
-    zero_f ∷ zero_f ∷ zero_f ∷ zero_f ∷ zero_f ∷ one_f ∷ one_f ∷ one_f ∷ one_f ∷ one_f ∷ two ∷ two ∷ two ∷ two ∷ two ∷
-    minus_two ∷ minus_two ∷ minus_two ∷ minus_two ∷ minus_two ∷ minus_one ∷ minus_one ∷ zero_f ∷ zero_f ∷ one_f ∷ one_f ∷ two ∷
-    two ∷ two ∷ two ∷ two ∷ minus_two ∷ minus_two ∷ minus_two ∷ minus_two ∷ minus_two ∷ minus_one ∷ minus_one ∷ zero_f ∷
-    zero_f ∷ one_f ∷ one_f ∷ two ∷ two ∷ two ∷ two ∷ two ∷ minus_two ∷ minus_two ∷ minus_two ∷ minus_two ∷ minus_two ∷
-    minus_one ∷ minus_one ∷ zero_f ∷ zero_f ∷ one_f ∷ one_f ∷ two ∷ two ∷ two ∷ two ∷ two ∷ minus_two ∷ minus_two ∷
-    minus_two ∷ minus_two ∷ minus_two ∷ minus_one ∷ minus_one ∷ minus_one ∷ minus_one ∷ minus_one ∷ zero_f ∷ zero_f ∷ zero_f ∷
-    zero_f ∷ zero_f ∷ one_f ∷ one_f ∷ one_f ∷ one_f ∷ one_f ∷ two ∷ two ∷ two ∷ two ∷ two ∷ []
-
-abbrev pub outer_z : List Float
-outer_z =
-    minus_two ∷ minus_one ∷ zero_f ∷ one_f ∷ two ∷ minus_two ∷ minus_one ∷ zero_f ∷ one_f ∷ two ∷ minus_two ∷ minus_one ∷
-    zero_f ∷ one_f ∷ two ∷ minus_two ∷ minus_one ∷ zero_f ∷ one_f ∷ two ∷ minus_two ∷ minus_one ∷ zero_f ∷ one_f ∷ two ∷
-    minus_two ∷ minus_one ∷ zero_f ∷ one_f ∷ two ∷ minus_two ∷ two ∷ minus_two ∷ two ∷ minus_two ∷ two ∷ minus_two ∷
-    minus_one ∷ zero_f ∷ one_f ∷ two ∷ minus_two ∷ minus_one ∷ zero_f ∷ one_f ∷ two ∷ minus_two ∷ two ∷ minus_two ∷ two ∷
-    minus_two ∷ two ∷ minus_two ∷ minus_one ∷ zero_f ∷ one_f ∷ two ∷ minus_two ∷ minus_one ∷ zero_f ∷ one_f ∷ two ∷ minus_two ∷
-    two ∷ minus_two ∷ two ∷ minus_two ∷ two ∷ minus_two ∷ minus_one ∷ zero_f ∷ one_f ∷ two ∷ minus_two ∷ minus_one ∷ zero_f ∷
-    one_f ∷ two ∷ minus_two ∷ minus_one ∷ zero_f ∷ one_f ∷ two ∷ minus_two ∷ minus_one ∷ zero_f ∷ one_f ∷ two ∷ minus_two ∷
-    minus_one ∷ zero_f ∷ one_f ∷ two ∷ minus_two ∷ minus_one ∷ zero_f ∷ one_f ∷ two ∷ []
-
-inner_are : points inner_x inner_y inner_z ≡ map point_of (take 26 (drop 1 offsets))
-unfolding points offsets all each those of_bits of_int round
+inner_are : points INNER.x INNER.y INNER.z ≡ map point_of (take 26 (drop 1 offsets))
+unfolding points offsets all each those neg of_bits of_int round
 inner_are = refl
 
-outer_are : points outer_x outer_y outer_z ≡ map point_of (drop 27 offsets)
-unfolding points offsets all each those of_bits of_int round
+outer_are : points OUTER.x OUTER.y OUTER.z ≡ map point_of (drop 27 offsets)
+unfolding points offsets all each those neg of_bits of_int round
 outer_are = refl
 
 -- the first offset of all
@@ -143,14 +90,14 @@ outer-count = refl
 -- the match by squares of a table's offsets
 module _ (symprec : Float) (f : Position → Float) (r : Match) where
   pub near-inner :
-      NearColumn symprec 1 26 (λ i. f (cell inner_x inner_y inner_z i)) r → r ≡ first_near symprec 1 (map (λ o. f (point_of o)) (take 26 (drop 1 offsets)))
+      NearColumn symprec 1 26 (λ i. f (cell INNER.x INNER.y INNER.z i)) r → r ≡ first_near symprec 1 (map (λ o. f (point_of o)) (take 26 (drop 1 offsets)))
   near-inner c =
-      c.near ∙ ap (first_near symprec 1) (by_table inner_x inner_y inner_z (take 26 (drop 1 offsets)) inner_are f 26 c.squares inner-count c.column)
+      c.near ∙ ap (first_near symprec 1) (by_table INNER.x INNER.y INNER.z (take 26 (drop 1 offsets)) inner_are f 26 c.squares inner-count c.column)
 
   pub near-outer :
-      NearColumn symprec 27 98 (λ i. f (cell outer_x outer_y outer_z i)) r → r ≡ first_near symprec 27 (map (λ o. f (point_of o)) (drop 27 offsets))
+      NearColumn symprec 27 98 (λ i. f (cell OUTER.x OUTER.y OUTER.z i)) r → r ≡ first_near symprec 27 (map (λ o. f (point_of o)) (drop 27 offsets))
   near-outer c =
-      c.near ∙ ap (first_near symprec 27) (by_table outer_x outer_y outer_z (drop 27 offsets) outer_are f 98 c.squares outer-count c.column)
+      c.near ∙ ap (first_near symprec 27) (by_table OUTER.x OUTER.y OUTER.z (drop 27 offsets) outer_are f 98 c.squares outer-count c.column)
 
 -- ---- one part of the offsets behind another
 
@@ -159,8 +106,8 @@ module _ (symprec : Float) (f : List ℤ → Float) (k : ℕ) (os rest : List (L
   joined = ap (first_near symprec k) (map-append f os rest)
 
   module _ (m : Match) (e : m ≡ first_near symprec k (map f os)) where
-    pub part_fits : (i : ℕ) (d : Float) → m ≡ Fits i d → Fits i d ≡ first_near symprec k (map f (os ++ rest))
-    part_fits i d g = sym (joined ∙ append_fits symprec (map f rest) k (map f os) i d (sym e ∙ g))
+    pub part_fits : (i : ℕ) (d : Float) → m ≡ Fits i d → m ≡ first_near symprec k (map f (os ++ rest))
+    part_fits i d g = g ∙ sym (joined ∙ append_fits symprec (map f rest) k (map f os) i d (sym e ∙ g))
 
     pub part_misses :
         (r : Match) (n : ℕ) → k + length os ≡ n → m ≡ Misses → r ≡ first_near symprec n (map f rest) →

@@ -17,15 +17,9 @@ use Rattle.definitions.specs.Matrix.{Matrix, at}
 use Rattle.definitions.specs.Real.{RealMatrix, zero_f, real_of, real, row_sum, apply_f, add_p, sub_p, sqrt}
 use Rattle.definitions.specs.Cell.{point_of}
 use Rattle.definitions.specs.Wyckoff.{Space, quotient, quotients, residual, distance, fits_at, match_from, match_of, offsets}
+use Rattle.symmetrize_match.specs.declared.RealSpace.{RealSpace}
 
 -- ---- the definitions over floats
-
-pub record RealSpace : Type 0 where
-  pub matrix : RealMatrix
-  pub shift : Position
-  pub diagonal : Position
-  pub left : RealMatrix
-  pub right : RealMatrix
 
 abbrev pub space_of : RealMatrix → Position → Position → RealMatrix → RealMatrix → RealSpace
 space_of matrix shift diagonal left right = record { matrix = matrix; shift = shift; diagonal = diagonal; left = left; right = right }
@@ -97,11 +91,6 @@ pub record Columns (n : ℕ) (f : ℕ → Position) (xs ys zs : List Float) : Ty
   pub x : Column n (λ i. (f i).x) xs
   pub y : Column n (λ i. (f i).y) ys
   pub z : Column n (λ i. (f i).z) zs
-
--- two more axes of n places
-pub record Beside (n : ℕ) (ys zs : List Float) : Type 0 where
-  pub y : length ys ≡ n
-  pub z : length zs ≡ n
 
 -- the match by squares, one for each of n places, counted from k
 pub record NearColumn (symprec : Float) (k n : ℕ) (f : ℕ → Float) (r : Match) : Type 0 where

@@ -1,8 +1,9 @@
 // One offset of moyo's `match_wyckoff_coordinates`: what R is applied to, the residual, the square of its length.
 ghost use Rattle.std.specs.Prelude.{◌≡◌};
 ghost use Rattle.definitions.specs.Real.{apply_f, add_p, sub_p};
-ghost use Rattle.symmetrize_match.specs.Match.{quotient_real, quotients_real, square};
+ghost use Rattle.symmetrize_match.specs.Match.{quotient_real, divided_real, square};
 
+use crate::RealSpace;
 use definitions::{Basis, Position};
 use math_real::position;
 
@@ -16,20 +17,14 @@ pub(crate) fn quotient(d: f64, b: f64) -> f64
 }
 
 // D⁻¹ L ((o + p) - q)
-pub(crate) fn divided(
-    diagonal: Position,
-    left: Basis,
-    shift: Position,
-    p: Position,
-    o: Position,
-) -> Position
-    ensures { result ≡ quotients_real diagonal (apply_f left (sub_p (add_p o p) shift)) }
+pub(crate) fn divided(space: &RealSpace, p: Position, o: Position) -> Position
+    ensures { result ≡ divided_real space.now o p }
 {
-    let b = position::apply(left, position::sub(position::add(o, p), shift));
+    let b = position::apply(space.left, position::sub(position::add(o, p), space.shift));
     Position {
-        x: quotient(diagonal.x, b.x),
-        y: quotient(diagonal.y, b.y),
-        z: quotient(diagonal.z, b.z),
+        x: quotient(space.diagonal.x, b.x),
+        y: quotient(space.diagonal.y, b.y),
+        z: quotient(space.diagonal.z, b.z),
     }
 }
 

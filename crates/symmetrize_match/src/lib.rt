@@ -3,20 +3,17 @@
 
 mod bound;
 mod fit;
-mod inner;
+mod moved;
 mod offsets;
-mod outer;
 mod passes;
-mod run;
+mod trial;
 
 ghost use Rattle.std.specs.Prelude.{◌≡◌, not, ◌||◌};
 ghost use Rattle.definitions.specs.Limits.{lattice_within, position_within, good_symprec};
-ghost use Rattle.definitions.specs.Real.{real_of};
 ghost use Rattle.definitions.specs.SiteCalls.{space_from, MatchPromise};
-ghost use Rattle.definitions.specs.Wyckoff.{match_of};
-ghost use Rattle.symmetrize_match.specs.Match.{space_of, IsBound, match_real};
-ghost use Rattle.symmetrize_match.specs.Match.{CountedDiagonal, diagonal_of};
+ghost use Rattle.symmetrize_match.specs.Match.{match_real, real_space, CountedDiagonal, diagonal_of};
 
+use bound::Tolerance;
 use checks::{good_symprec, lattice_within, position_within};
 use data_wyckoff::space::prepare;
 use definitions::{
@@ -24,58 +21,30 @@ use definitions::{
 };
 use math_real::position::position_of;
 use math_real::whole;
+use trial::Trial;
 
-// The same as `match_prepared` with a bound for symprec, which serves every position and candidate.
-pub(crate) fn match_within(
-    basis: Basis,
-    symprec: f64,
-    bound: f64,
-    matrix: Basis,
-    shift: Position,
-    diagonal: Position,
-    left: Basis,
-    right: Basis,
-    position: Position,
-) -> Match
-    requires { IsBound symprec bound }
-    ensures { result ≡ match_real basis symprec (space_of matrix shift diagonal left right) position }
-{
-    let tried = inner::match_inner(
-        basis, symprec, bound, matrix, shift, diagonal, left, right, position,
-    );
-    match tried {
-        Match::Fits(place, distance) => Match::Fits(place, distance),
-        Match::Misses => outer::match_outer(
-            basis, symprec, bound, matrix, shift, diagonal, left, right, position,
-        ),
-    }
+// moyo's WyckoffPositionSpace, a candidate's space worked out: M, q, D's diagonal, L and R as floats, so that one
+// preparation serves every position.
+#[derive(Clone, Copy)]
+pub struct RealSpace {
+    pub matrix: Basis,
+    pub shift: Position,
+    pub diagonal: Position,
+    pub left: Basis,
+    pub right: Basis,
 }
 
 // moyo's `match_wyckoff_coordinates` of a candidate whose space is worked out already.
-// M, L, R and D's diagonal are given as floats, so that one preparation serves every position.
-pub fn match_prepared(
-    basis: Basis,
-    symprec: f64,
-    matrix: Basis,
-    shift: Position,
-    diagonal: Position,
-    left: Basis,
-    right: Basis,
-    position: Position,
-) -> Match
-    ensures { result ≡ match_real basis symprec (space_of matrix shift diagonal left right) position }
+pub fn match_prepared(basis: Basis, symprec: f64, space: &RealSpace, position: Position) -> Match
+    ensures { result ≡ match_real basis symprec space.now position }
 {
-    match_within(
+    let trial = Trial {
         basis,
-        symprec,
-        bound::bound(symprec),
-        matrix,
-        shift,
-        diagonal,
-        left,
-        right,
+        tolerance: Tolerance::new(symprec),
+        space,
         position,
-    )
+    };
+    trial.matched()
 }
 
 // ---- one position against one candidate
@@ -84,55 +53,37 @@ pub fn match_prepared(
 fn bad_floats(basis: Basis, position: Position, symprec: f64) -> bool
     ensures { result ≡ (not (lattice_within basis) || not (position_within position) || not (good_symprec symprec)) }
 {
-    let lattice = !lattice_within(basis);
-    let site = !position_within(position);
-    let limit = !good_symprec(symprec);
-    lattice | site | limit
-}
-
-fn real_entry(e: i16) -> f64
-    ensures { result ≡ real_of e }
-{
-    e as f64
+    !lattice_within(basis) || !position_within(position) || !good_symprec(symprec)
 }
 
 // D's diagonal: 16 bits are few enough for a float to count.
 fn diagonal_of(d: SnfMatrix) -> Position
     ensures { (result ≡ diagonal_of d) × CountedDiagonal d }
 {
-    let x = real_entry(d[0][0]);
-    let y = real_entry(d[1][1]);
-    let z = real_entry(d[2][2]);
-    Position { x: x, y: y, z: z }
+    Position {
+        x: f64::from(d[0][0]),
+        y: f64::from(d[1][1]),
+        z: f64::from(d[2][2]),
+    }
 }
 
-// The match of a prepared candidate in whole numbers.
-fn match_space(
-    basis: Basis,
-    symprec: f64,
+// A prepared candidate's whole numbers as floats.
+pub fn real_space(
     matrix: Rotation,
     shift: Cells,
     d: SnfMatrix,
     l: SnfMatrix,
     r: SnfMatrix,
-    position: Position,
-) -> Match
-    ensures { result ≡ match_of basis symprec (space_from matrix shift (record { d = d; l = l; r = r })) position }
+) -> RealSpace
+    ensures { (result ≡ real_space (space_from matrix shift (record { d = d; l = l; r = r }))) × CountedDiagonal d }
 {
-    let diagonal = diagonal_of(d);
-    let m = whole::real(matrix);
-    let left = whole::real16(l);
-    let right = whole::real16(r);
-    match_prepared(
-        basis,
-        symprec,
-        m,
-        position_of(shift),
-        diagonal,
-        left,
-        right,
-        position,
-    )
+    RealSpace {
+        matrix: whole::real(matrix),
+        shift: position_of(shift),
+        diagonal: diagonal_of(d),
+        left: whole::real(l),
+        right: whole::real(r),
+    }
 }
 
 // moyo's `match_wyckoff_coordinates`: 4, 6, 8, or the match.
@@ -149,9 +100,10 @@ pub fn match_coordinates(basis: Basis, position: Position, text: &Text, symprec:
     let mut r = [[0; 3]; 3];
     let v = prepare(text, &mut m, &mut q, &mut d, &mut l, &mut r);
     match v {
-        Verdict::Accepted => Matching::Answered(match_space(
-            basis, symprec, m, q, d, l, r, position,
-        )),
+        Verdict::Accepted => {
+            let space = real_space(m, q, d, l, r);
+            Matching::Answered(match_prepared(basis, symprec, &space, position))
+        }
         Verdict::Refused(k) => Matching::Refused(k),
     }
 }

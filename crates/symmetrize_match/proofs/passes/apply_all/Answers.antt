@@ -1,7 +1,5 @@
 -- `apply_all` meets its contract: each position is read before it is written.
-use native.Mathlib.Omega.{arith}
-use mathlib.Core.Path.{◌≡◌, refl, ap, ◌∙◌}
-use native.Mathlib.Nat.{not-suc-le-zero}
+use mathlib.Core.Path.{◌≡◌, ap, ◌∙◌}
 use lib.ListN.{length-set}
 use Rattle.definitions.specs.Real.{apply_f}
 use Rattle.symmetrize_match.specs.Match.{cell}
@@ -9,45 +7,23 @@ use Rattle.symmetrize_match.proofs.Stores.{made, left}
 use borrow.Author.Rules.{rules}
 use Rattle.symmetrize_match.proofs.passes.apply_all.Goals as goal
 
-pub loop-i-init : goal.loop-i-init
-loop-i-init c = (
-  search rules,
-  refl,
-  c.requires.y,
-  c.requires.z,
-  λ j h. absurd (not-suc-le-zero h),
-  λ j h. absurd (not-suc-le-zero h),
-  λ j h. absurd (not-suc-le-zero h),
-  λ j h. refl,
-  λ j h. refl,
-  λ j h. refl,
-)
-
 pub loop-i-preserved : goal.loop-i-preserved
-loop-i-preserved c =
+loop-i-preserved g c =
     let l = c.loop-i in
     let a = c.args in
     let i = l.i in
-    let there : cell l.xs l.ys l.zs i ≡ cell a.xs.now a.ys.now a.zs.now i =
-    (λ t. record { x = l.invariant.7 i (search rules) t; y = l.invariant.8 i (search rules) t; z = l.invariant.9 i (search rules) t }) in
-    let e = c.apply-w.ensures ∙ ap (apply_f a.m) there in (
-      search rules,
-      simp length-set l.invariant.1,
-      simp length-set l.invariant.2,
-      simp length-set l.invariant.3,
-      made l.xs i _ (λ j. (apply_f a.m (cell a.xs.now a.ys.now a.zs.now j)).x) (search rules) l.invariant.4 (ap (λ p. p.x) e),
-      made l.ys i _ (λ j. (apply_f a.m (cell a.xs.now a.ys.now a.zs.now j)).y) (search rules) l.invariant.5 (ap (λ p. p.y) e),
-      made l.zs i _ (λ j. (apply_f a.m (cell a.xs.now a.ys.now a.zs.now j)).z) (search rules) l.invariant.6 (ap (λ p. p.z) e),
-      left l.xs i _ a.xs.now l.invariant.7,
-      left l.ys i _ a.ys.now l.invariant.8,
-      left l.zs i _ a.zs.now l.invariant.9,
+    let o = a.out.now in
+    let v = l.invariant in
+    let there : cell l.out.x l.out.y l.out.z i ≡ cell o.x o.y o.z i =
+    (λ t. record { x = v.6 i (search rules) t; y = v.7 i (search rules) t; z = v.8 i (search rules) t }) in
+    let e = c.apply-w.ensures ∙ ap (apply_f a.m) (c.at.ensures ∙ there) in (
+      simp length-set v.0,
+      simp length-set v.1,
+      simp length-set v.2,
+      made l.out.x i _ (λ j. (apply_f a.m (cell o.x o.y o.z j)).x) (search rules) v.3 (ap (λ p. p.x) e),
+      made l.out.y i _ (λ j. (apply_f a.m (cell o.x o.y o.z j)).y) (search rules) v.4 (ap (λ p. p.y) e),
+      made l.out.z i _ (λ j. (apply_f a.m (cell o.x o.y o.z j)).z) (search rules) v.5 (ap (λ p. p.z) e),
+      left l.out.x i _ o.x v.6,
+      left l.out.y i _ o.y v.7,
+      left l.out.z i _ o.z v.8,
     )
-
-pub returns : goal.returns
-returns c =
-    let v = c.loop-i.invariant in
-    record {
-      x = record { long = v.1; each = λ i h. v.4 i (omega arith) };
-      y = record { long = v.2; each = λ i h. v.5 i (omega arith) };
-      z = record { long = v.3; each = λ i h. v.6 i (omega arith) };
-    }

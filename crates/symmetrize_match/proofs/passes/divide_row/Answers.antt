@@ -1,7 +1,6 @@
 -- `divide_row` meets its contract: a row that is divided, or that was zero.
 use native.Mathlib.Omega.{arith}
 use mathlib.Core.Path.{ap, ◌∙◌}
-use native.Mathlib.Nat.{not-suc-le-zero}
 use lib.ListN.{length-set}
 use lib.Ieee.{binary64, div}
 use Rattle.definitions.specs.Real.{add_p, sub_p}
@@ -12,24 +11,21 @@ use Rattle.symmetrize_match.proofs.passes.divide_row.Goals as goal
 
 pub returns-then-d : goal.returns-then-d
 unfolding quotient_real
-returns-then-d c =
-    let z = c.requires.1 in
+returns-then-d g c =
+    let z = c.requires in
     record { long = z.long; each = λ i h. z.each i h ∙ rw c.if-d.true }
 
-pub loop-i-init : goal.loop-i-init
-loop-i-init c = (search rules, c.requires.1.long, λ j h. absurd (not-suc-le-zero h))
-
 pub loop-i-preserved : goal.loop-i-preserved
-loop-i-preserved c =
+loop-i-preserved g c =
     let l = c.loop-i in
     let a = c.args in
+    let o = a.offsets.now in
     let e =
-    c.row_times.ensures ∙ ap (row_times a.row) (c.sub-t.ensures ∙ ap (λ t. sub_p t a.shift) c.add.ensures) in (
-      search rules,
-      simp length-set l.invariant.1,
-      made l.out l.i _ (λ j. div binary64 (row_times a.row (sub_p (add_p (cell a.xs.now a.ys.now a.zs.now j) a.p) a.shift)) a.d) (search rules) l.invariant.2 (ap (λ t. div binary64 t a.d) e),
+    c.row_times.ensures ∙ ap (row_times a.row) (c.sub-t.ensures ∙ ap (λ t. sub_p t a.shift) (c.add.ensures ∙ ap (λ t. add_p t a.p) c.at.ensures)) in (
+      simp length-set l.invariant.0,
+      made l.out l.i _ (λ j. div binary64 (row_times a.row (sub_p (add_p (cell o.x o.y o.z j) a.p) a.shift)) a.d) (search rules) l.invariant.1 (ap (λ t. div binary64 t a.d) e),
     )
 
 pub returns : goal.returns
 unfolding quotient_real
-returns c = record { long = c.loop-i.invariant.1; each = λ i h. c.loop-i.invariant.2 i (omega arith) ∙ rw c.if-d.false }
+returns g c = record { long = c.loop-i.invariant.0; each = λ i h. c.loop-i.invariant.1 i (omega arith) ∙ rw c.if-d.false }
