@@ -1,24 +1,21 @@
 -- What the call knows past the first five conditions, and how it keeps its promise.
 use Prim.Native.Nat.{ℕ, ◌*◌, ◌≤◌}
-use mathlib.Core.Path.{◌≡◌, refl, sym, ap, ◌∙◌}
-use mathlib.Core.Bool.{Bool, true, false, ◌||◌}
+use mathlib.Core.Path.{◌≡◌, refl}
+use mathlib.Core.Bool.{false, ◌||◌}
 use mathlib.Core.List.{List, []}
 use lib.ListN.{length}
-use borrow.Author.Tests.{ltb-false, eqb-true, not-true, not-false}
+use borrow.Author.Tests.{ltb-false, eqb-true, not-false}
 use Rattle.definitions.specs.declared.Verdict.{Verdict}
 use Rattle.definitions.specs.declared.Verdict.TheVariants.{Accepted, Refused}
 use Rattle.definitions.specs.Calls.{align_conditions, AlignPromise}
-use Rattle.definitions.specs.Lists.{each}
-use Rattle.definitions.specs.Transformation.{aligned_to}
 use Rattle.definitions.specs.Lent.{bad_permutation_counts, unlike}
 use Rattle.definitions.specs.Limits.{most_sites, most_operations, not_some, too_many_sites}
 use Rattle.definitions.specs.Matrix.{Matrix}
 use Rattle.definitions.specs.Refusal.{Condition, padded}
-use Rattle.laws.specs.Filling.{cut, padded_by}
 use Rattle.laws.specs.Limits.{few, few_entries}
 use Rattle.laws.specs.Tests.{off, so, not_so, neither_left, neither_right}
 use Rattle.laws.specs.Verdicts.{HoldsAt, Passed, pass, found_at_lem, found_none, refuse, accept, verdict_of}
-use Rattle.symmetrize_align.specs.Aligning.{Known, Aligned, Settled, Given}
+use Rattle.symmetrize_align.specs.Aligning.{Known, Settled, Given}
 
 -- what the test of the counts says: of n sites, k operations and m targets
 module _ (n k : ℕ) (images : List ℕ) (m : ℕ) (e : (bad_permutation_counts n k images || not_some m) ≡ false) where
@@ -54,23 +51,6 @@ module _ (t : Matrix) (rs : List Matrix) (images : List ℕ) (n : ℕ) (gs : Lis
   known p =
       known_by n (length rs) images (length gs) (off _ p.0) room
       (ltb-false room (length gs * n) (off _ p.1.1.1.1.0))
-
--- ---- the list after the search
-
-module _
-    (t : Matrix) (rs : List Matrix) (images : List ℕ) (n : ℕ) (gs : List Matrix) (old mid new : List ℕ) {r : Bool}
-    (a : Aligned t rs images n gs old mid r) where
-  pub settled_found :
-      length gs * n ≤ length old → r ≡ true → new ≡ cut 0 (length gs * n) mid →
-      Settled t rs images n gs old new Accepted
-  settled_found h e c = (
-    not-true _ (sym a.none_absent ∙ e),
-    padded_by 0 (each (λ p. p) (aligned_to n t rs images gs)) old new mid (length gs * n) (a.long e) h (a.front e) c,
-  )
-
-  pub settled_absent :
-      length mid ≡ length old → r ≡ false → new ≡ cut 0 0 mid → Settled t rs images n gs old new (Refused 11)
-  settled_absent h e c = (refl, not-false _ (sym a.none_absent ∙ e), c ∙ ap (padded 0 []) h)
 
 -- ---- the promise
 

@@ -1,6 +1,6 @@
 -- The lists that f makes of the targets, written one behind the other: those of the first i, then what was there.
 use Prim.Native.Nat.{ℕ, suc, ◌+◌, ◌-◌, ◌*◌, ◌≤◌, ◌<◌}
-use mathlib.Core.Path.{◌≡◌, refl, sym, ap, ◌∙◌}
+use mathlib.Core.Path.{◌≡◌, refl, sym, ap, subst, ◌∙◌}
 use mathlib.Core.Bool.{Bool, true, false, not}
 use mathlib.Core.List.{List, [], ◌∷◌, ◌++◌, map, append_assoc, append-nil}
 use mathlib.Core.Option.{Option, some}
@@ -12,7 +12,7 @@ use Rattle.definitions.specs.Lists.{any, each}
 use Rattle.definitions.specs.Matrix.{Matrix}
 use Rattle.definitions.specs.Transformation.{transform_rotation, is_none, operation_for, permutation_or}
 use Rattle.definitions.specs.Transformation.{rotation_absent, aligned_to}
-use Rattle.laws.specs.Lists.{any_head, part_of}
+use Rattle.laws.specs.Lists.{any_head, part_of, next_part}
 use Rattle.symmetrize_align.specs.Aligning.{last_of, aligned_by, Put, Aligned}
 use Rattle.symmetrize_align.proofs.Search.{transformed_last}
 
@@ -50,12 +50,12 @@ pub record Front {A B : Type 0} (f : A → List B) (gs : List A) (i size : ℕ) 
   pub cells : new ≡ each f (take i gs) ++ drop size old
 
 module _ {A B : Type 0} (f : A → List B) (gs : List A) (d : A) (old : List B) where
-  pub front_none : Front f gs 0 0 old old
+  pub front_none : (n : ℕ) → Front f gs 0 (0 * n) old old
   unfolding each
-  front_none = record { long = refl; cells = refl }
+  front_none n = let z : 0 * n ≡ 0 = omega arith in rw z (record { long = refl; cells = refl })
 
   -- one list more
-  pub front_more :
+  front_more :
       {i at n : ℕ} {l : List B} → Front f gs i at old l → i < length gs → (part : List B) → part ≡ f (get_or gs i d) →
       length part ≡ n → Front f gs (i + 1) (at + n) old (take at l ++ (part ++ drop (at + n - at) (drop at l)))
   front_more {i} {at} {n} {l} c h part e s =
@@ -76,6 +76,15 @@ module _ {A B : Type 0} (f : A → List B) (gs : List A) (d : A) (old : List B) 
             )
             (sym (append_assoc done part (drop (at + n) old)));
       }
+
+  -- where each has n cells
+  pub front_next :
+      {i n : ℕ} {l : List B} → Front f gs i (i * n) old l → i < length gs → (part : List B) → part ≡ f (get_or gs i d) →
+      length part ≡ n →
+      Front f gs (i + 1) ((i + 1) * n) old (take (i * n) l ++ (part ++ drop (i * n + n - i * n) (drop (i * n) l)))
+  front_next {i} {n} {l} c h part e s =
+      subst (λ (m : ℕ). Front f gs (i + 1) m old (take (i * n) l ++ (part ++ drop (i * n + n - i * n) (drop (i * n) l))))
+      (next_part i (i * n) n refl) (front_more c h part e s)
 
   pub front_long : {i at n : ℕ} {l : List B} → Front f gs i at old l → length gs ≤ i → at ≡ n → length (each f gs) ≡ n
   front_long {i} {at} {n} {l} c h e = ap (λ (m : List A). length (each f m)) (sym (take_all i gs h)) ∙ c.long ∙ e
@@ -103,9 +112,6 @@ module _ (t : Matrix) (rs held d : List Matrix) (e : held ≡ map (transform_rot
   lent_is =
       let z : length rs - 0 ≡ length rs = omega arith in
       rw (e, z) (take_at (map (transform_rotation t) rs) d (length rs) (length-map rs (transform_rotation t)))
-
-  pub lent_long : length (take (length rs - 0) held) ≡ length rs
-  lent_long = ap length lent_is ∙ length-map rs (transform_rotation t)
 
 module _ (t : Matrix) (rs ms : List Matrix) (images : List ℕ) (n : ℕ) (gs : List Matrix) where
   pub aligned_by_lem :

@@ -1,16 +1,17 @@
 -- The search from the last place down, and what it finds in the transformed rotations.
-use Prim.Native.Nat.{ℕ, zero, suc, ◌+◌, ◌≤◌, ◌<◌}
+use Prim.Native.Nat.{ℕ, zero, suc, ◌+◌, ◌<◌}
 use mathlib.Core.Path.{◌≡◌, refl, sym, ap, subst, ◌∙◌}
 use mathlib.Core.Bool.{Bool, true, false}
 use mathlib.Core.List.{List, [], ◌∷◌, ◌++◌, map, reverse, reverse-append}
 use mathlib.Core.Option.{Option, none, some}
+use Rattle.std.specs.Prelude.{Some, None}
 use native.Mathlib.Omega.{arith}
 use lib.ListN.{length, get_or, length-map}
 use Rattle.definitions.specs.Lists.{first, up_from, up_to}
 use Rattle.definitions.specs.Matrix.{Matrix}
 use Rattle.definitions.specs.Transformation.{same_matrix, transform_rotation, operation_for, is_none}
 use Rattle.laws.specs.Lists.{map_at}
-use Rattle.symmetrize_align.specs.Aligning.{last_below, last_of, place_or}
+use Rattle.symmetrize_align.specs.Aligning.{last_below, last_of, found}
 
 -- ---- 0 to k, from the last down
 
@@ -87,20 +88,21 @@ module _ (ms : List Matrix) (g : Matrix) where
       by true e r = let h : k < suc k = omega arith in subst (Below (suc k)) (sym (last_hit k e)) h
       by false e r = subst (Below (suc k)) (sym (last_miss k e)) r
 
-  -- the place that the search gives
-  pub found : (r : ℕ) → r ≡ place_or (length ms) (last_of ms g) → r < length ms → last_of ms g ≡ some r
-  found r = by (last_of ms g)
+  -- the place that the search gives its caller
+  pub found_at : (k : ℕ) → Some k ≡ found (last_of ms g) → last_of ms g ≡ some k
+  found_at k = by (last_of ms g)
     where
-      by : (o : Option ℕ) → r ≡ place_or (length ms) o → r < length ms → o ≡ some r
-      by none e h = absurd (omega arith)
-      by (some k) e h = ap some (sym e)
+      by : (o : Option ℕ) → Some k ≡ found o → o ≡ some k
+      by none e = absurd (cc)
+      by (some j) e = let h : k ≡ j = cc in ap some (sym h)
 
-  pub absent : (r : ℕ) → r ≡ place_or (length ms) (last_of ms g) → length ms ≤ r → is_none (last_of ms g) ≡ true
-  absent r = by (last_of ms g) (last_below_lem (length ms))
-    where
-      by : (o : Option ℕ) → Below (length ms) o → r ≡ place_or (length ms) o → length ms ≤ r → is_none o ≡ true
-      by none b e h = refl
-      by (some k) b e h = absurd (omega arith)
+  pub found_below : (k : ℕ) → last_of ms g ≡ some k → k < length ms
+  found_below k e = subst (Below (length ms)) e (last_below_lem (length ms))
+
+-- and that it gives none
+pub absent : (o : Option ℕ) → None ≡ found o → is_none o ≡ true
+absent none e = refl
+absent (some k) e = absurd (cc)
 
 -- ---- in the transformed rotations
 

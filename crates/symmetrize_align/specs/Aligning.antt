@@ -1,18 +1,16 @@
 -- The last of the transformed rotations that is a target's, and the permutations by it: what the functions here say of
 -- each other.
-use Rattle.std.specs.Prelude.{ℕ, ◌*◌, ◌≤◌, ◌≡◌, Bool, true, false, not, ◌&&◌, List, [], ◌++◌, reverse, get_or, length, drop, ℤ}
+use Rattle.std.specs.Prelude.{ℕ, ◌*◌, ◌≤◌, ◌≡◌, Bool, true, false, not, List, [], ◌++◌, reverse, get_or, length, drop}
+use Rattle.std.specs.Prelude.{Option as Found, Some, None}
 use Rattle.std.proofs.Math.Option.{Option, none, some}
 use Rattle.definitions.specs.declared.Verdict.{Verdict}
 use Rattle.definitions.specs.declared.Verdict.TheVariants.{Accepted, Refused}
 use Rattle.definitions.specs.Lists.{any, each, first, up_to}
 use Rattle.definitions.specs.Limits.{most_sites, most_operations}
-use Rattle.definitions.specs.Matrix.{Matrix, item}
+use Rattle.definitions.specs.Matrix.{Matrix}
 use Rattle.definitions.specs.Refusal.{Condition, Checked, padded, target_rotation}
-use Rattle.definitions.specs.Transformation.{same_z, same_matrix, is_none, permutation_or, rotation_absent, aligned_to}
+use Rattle.definitions.specs.Transformation.{same_matrix, is_none, permutation_or, rotation_absent, aligned_to}
 use Rattle.laws.specs.Verdicts.{Passed}
-
-abbrev pub same_rows : List ℤ → List ℤ → Bool
-same_rows a b = same_z (item a 0) (item b 0) && same_z (item a 1) (item b 1) && same_z (item a 2) (item b 2)
 
 -- ---- the search
 
@@ -23,9 +21,10 @@ last_below ms g k = first (λ j. same_matrix (get_or ms j []) g) (reverse (up_to
 abbrev pub last_of : List Matrix → Matrix → Option ℕ
 last_of ms g = last_below ms g (length ms)
 
-abbrev pub place_or : ℕ → Option ℕ → ℕ
-place_or n none = n
-place_or n (some k) = k
+-- what the search gives its caller
+abbrev pub found : Option ℕ → Found ℕ
+found none = None
+found (some k) = Some k
 
 -- ---- the answer, from the rotations ms
 

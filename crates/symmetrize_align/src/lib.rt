@@ -12,7 +12,7 @@ ghost use Rattle.symmetrize_align.specs.Aligning.{Known, Aligned, Settled};
 
 use definitions::limits::MOST_OPERATIONS;
 use definitions::{Integers, Linear, Rotation, Verdict, refusal};
-use lent::clear_u8;
+use lent::clear;
 
 // What stands at a place of the table before a rotation does; past the operations it is not read.
 const NOTHING: Integers = [[0, 0, 0], [0, 0, 0], [0, 0, 0]];
@@ -30,6 +30,7 @@ fn transform_and_put(
     ensures { Aligned t rotations.now images.now sites targets.now
         out.old out.new result }
 {
+    // no heap: a table for the most operations, of which the first k are written
     let mut moved = [NOTHING; MOST_OPERATIONS];
     rotations::put_transformed(t, rotations, &mut moved);
     let k = rotations.len();
@@ -50,10 +51,10 @@ fn align(
         out.old out.new result }
 {
     if transform_and_put(t, rotations, images, sites, targets, out) {
-        clear_u8(out, targets.len() * sites);
+        clear(out, targets.len() * sites);
         return Verdict::Accepted;
     }
-    clear_u8(out, 0);
+    clear(out, 0);
     Verdict::Refused(refusal::TARGET_ROTATION)
 }
 
@@ -75,7 +76,7 @@ pub fn align_permutations(
             return align(t, rotations, images, sites, targets, out);
         }
         Verdict::Refused(_) => {
-            clear_u8(out, 0);
+            clear(out, 0);
         }
     }
     v

@@ -1,38 +1,29 @@
 // The rotations of the operations in the selected primitive basis, and the search among them.
 ghost use Rattle.std.specs.Prelude.{◌≤◌, ◌≡◌, ◌++◌, map, length, drop};
-ghost use Rattle.definitions.specs.Transformation.{same_z, same_matrix, transform_rotation};
-ghost use Rattle.symmetrize_align.specs.Aligning.{last_of, place_or, same_rows};
+ghost use Rattle.definitions.specs.Transformation.{same_matrix, transform_rotation};
+ghost use Rattle.symmetrize_align.specs.Aligning.{found, last_of};
 
 use definitions::{Integers, Linear, Rotation};
 use math_matrix::{transform_by, unimodular_inverse, widened};
 
-// ---- the same rotation: a transformed one may have left eight bits
+// ---- a target, as wide as a transformed rotation, which may have left eight bits
 
-fn same_entry(a: i64, b: i8) -> bool
-    ensures { result ≡ same_z a b }
+fn wide_row(row: [i8; 3]) -> [i64; 3]
+    ensures { result ≡ row }
 {
-    a == b as i64
+    row.map(i64::from)
 }
 
-fn same_row(a: [i64; 3], b: [i8; 3]) -> bool
-    ensures { result ≡ same_rows a b }
+fn wide(r: Rotation) -> Integers
+    ensures { result ≡ r }
 {
-    let x = same_entry(a[0], b[0]);
-    let y = same_entry(a[1], b[1]);
-    let z = same_entry(a[2], b[2]);
-    x & y & z
+    r.map(wide_row)
 }
 
-fn same(a: Integers, b: Rotation) -> bool
+fn same(a: Integers, b: Integers) -> bool
     ensures { result ≡ same_matrix a b }
 {
-    if !same_row(a[0], b[0]) {
-        return false;
-    }
-    if !same_row(a[1], b[1]) {
-        return false;
-    }
-    same_row(a[2], b[2])
+    a == b
 }
 
 // ---- lists of them
@@ -46,27 +37,21 @@ pub(crate) fn put_transformed(t: Linear, rotations: &[Rotation], moved: &mut [In
 {
     let inverse = unimodular_inverse(t);
     let by = widened(t);
-    let mut i: usize = 0;
-    while i < rotations.len() {
-        moved[i] = transform_by(inverse, by, rotations[i]);
-        i += 1;
+    for (i, rotation) in rotations.iter().enumerate() {
+        moved[i] = transform_by(inverse, by, *rotation);
     }
 }
 
-// The place of the last that is the target's, or how many there are if none is. moyo's hash map keeps, of equal
-// rotations, the one that it was given last.
-pub(crate) fn last_place(moved: &[Integers], target: Rotation) -> usize
-    ensures { result ≡ place_or (length moved.now) (last_of moved.now target) }
+// The place of the last that is the target's. moyo's hash map keeps, of equal rotations, the one that it was given
+// last.
+pub(crate) fn last_place(moved: &[Integers], target: Rotation) -> Option<usize>
+    ensures { result ≡ found (last_of moved.now target) }
 {
-    let n = moved.len();
-    let mut tried: usize = 0;
-    while tried < n {
-        let left = n - tried;
-        let at = left - 1;
-        if same(moved[at], target) {
-            return at;
+    let wanted = wide(target);
+    for i in (0..moved.len()).rev() {
+        if same(moved[i], wanted) {
+            return Some(i);
         }
-        tried += 1;
     }
-    n
+    None
 }

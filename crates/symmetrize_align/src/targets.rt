@@ -5,18 +5,6 @@ ghost use Rattle.symmetrize_align.specs.Aligning.{Put};
 use crate::rotations::last_place;
 use definitions::{Integers, Rotation};
 
-// a permutation into a part of the answer
-fn copy(p: &[u8], out: &mut [u8])
-    requires { length p.now ≡ length out.old }
-    ensures { out.new ≡ p.now }
-{
-    let mut i: usize = 0;
-    while i < p.len() {
-        out[i] = p[i];
-        i += 1;
-    }
-}
-
 // Whether the rotation of every target was found: at one that was not it stops.
 pub(crate) fn put_aligned(
     moved: &[Integers],
@@ -29,19 +17,14 @@ pub(crate) fn put_aligned(
     ensures { Put moved.now images.now n targets.now
         out.old out.new result }
 {
-    let mut at: usize = 0;
-    let mut i: usize = 0;
-    while i < targets.len() {
-        let k = last_place(moved, targets[i]);
-        if moved.len() <= k {
+    for (i, target) in targets.iter().enumerate() {
+        let Some(k) = last_place(moved, *target) else {
             return false;
-        }
+        };
         let from = k * n;
-        let to = from + n;
-        let end = at + n;
-        copy(&images[from..to], &mut out[at..end]);
-        at = end;
-        i += 1;
+        let part = &images[from..from + n];
+        let at = i * n;
+        out[at..at + n].copy_from_slice(part);
     }
     true
 }

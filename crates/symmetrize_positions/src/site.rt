@@ -73,9 +73,3 @@ pub(crate) fn count_of(n: usize) -> f64
 {
     n as f64
 }
-
-pub(crate) fn wide(x: u8) -> usize
-    ensures { result ≡ x }
-{
-    x as usize
-}

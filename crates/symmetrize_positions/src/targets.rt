@@ -10,8 +10,19 @@ ghost use Rattle.symmetrize_positions.specs.Targets.{Counted, Permuted, Made, mo
 
 use crate::site;
 use definitions::{Basis, Cells, Position, Rotation};
-use lent::clear_cells;
-use math_real::whole;
+use lent::clear;
+use math_real::{position, whole};
+
+// The targets, past the verdict: a rotation, a translation and a permutation of the sites each.
+#[derive(Clone, Copy)]
+pub(crate) struct Targets<'a> {
+    pub(crate) sites: usize,
+    pub(crate) rotations: &'a [Rotation],
+    pub(crate) translations: &'a [Cells],
+    pub(crate) images: &'a [u8],
+    ghost counted: { Counted sites (length rotations.now) (length translations.now) (length images.now) },
+    ghost permuted: { Permuted sites (length rotations.now) images.now },
+}
 
 // One target's: site j's goes to its image.
 fn add_target(
@@ -27,41 +38,29 @@ fn add_target(
     ensures { Made (more positions.now m translation images.now) (length positions.now)
         out.old out.new }
 {
-    let mut j: usize = 0;
-    while j < images.len() {
-        let i = site::wide(images[j]);
+    for (j, image) in images.iter().enumerate() {
+        let i = usize::from(*image);
         let q = site::position_at(positions, j);
         let d = site::displacement(m, translation, q, site::position_at(positions, i));
         out[i] = site::grown(out[i], d);
-        j += 1;
     }
 }
 
-fn add_targets(
-    positions: &[Cells],
-    rotations: &[Rotation],
-    translations: &[Cells],
-    images: &[u8],
-    out: &mut [Cells],
-)
-    requires { Counted (length positions.now) (length rotations.now) (length translations.now) (length images.now)
-        × Permuted (length positions.now) (length rotations.now) images.now
+fn add_targets(positions: &[Cells], targets: &Targets, out: &mut [Cells])
+    requires { (targets.now.sites ≡ length positions.now)
         × (length positions.now ≤ length out.old)
         × ((i : ℕ) → i < length positions.now → get_or out.old i [] ≡ zero_cells) }
     ensures { Made
-        (total positions.now rotations.now translations.now images.now)
+        (total positions.now targets.now.rotations.now targets.now.translations.now targets.now.images.now)
         (length positions.now) out.old out.new }
 {
     let n = positions.len();
-    let mut at: usize = 0;
-    let mut k: usize = 0;
-    while k < rotations.len() {
-        let end = at + n;
-        let m = whole::real(rotations[k]);
-        let translation = site::position_at(translations, k);
-        add_target(positions, m, translation, &images[at..end], out);
-        at = end;
-        k += 1;
+    for (k, rotation) in targets.rotations.iter().enumerate() {
+        let at = k * n;
+        let m = whole::real(*rotation);
+        let translation = site::position_at(targets.translations, k);
+        let images = &targets.images[at..at + n];
+        add_target(positions, m, translation, images, out);
     }
 }
 
@@ -72,31 +71,21 @@ fn put_means(positions: &[Cells], targets: usize, out: &mut [Cells])
         out.new }
 {
     let by = site::count_of(targets);
-    let mut i: usize = 0;
-    while i < positions.len() {
-        let p = site::position_at(positions, i);
-        out[i] = site::with_mean(p, out[i], by);
-        i += 1;
+    for (i, p) in positions.iter().enumerate() {
+        out[i] = site::with_mean(position::position_of(*p), out[i], by);
     }
 }
 
 // The answer at the front, zero behind it. Every position read is the unsymmetrised one: the sums grow in another list.
-pub(crate) fn fill(
-    positions: &[Cells],
-    rotations: &[Rotation],
-    translations: &[Cells],
-    images: &[u8],
-    out: &mut [Cells],
-)
-    requires { Counted (length positions.now) (length rotations.now) (length translations.now) (length images.now)
-        × Permuted (length positions.now) (length rotations.now) images.now
+pub(crate) fn fill(positions: &[Cells], targets: &Targets, out: &mut [Cells])
+    requires { (targets.now.sites ≡ length positions.now)
         × (length positions.now ≤ length out.old) }
     ensures { out.new ≡ padded zero_cells
-        (symmetrized_cells (map position_from positions.now) rotations.now
-        translations.now images.now)
+        (symmetrized_cells (map position_from positions.now) targets.now.rotations.now
+        targets.now.translations.now targets.now.images.now)
         (length out.old) }
 {
-    clear_cells(out, 0);
-    add_targets(positions, rotations, translations, images, out);
-    put_means(positions, rotations.len(), out);
+    clear(out, 0);
+    add_targets(positions, targets, out);
+    put_means(positions, targets.rotations.len(), out);
 }

@@ -4,7 +4,6 @@ ghost use Rattle.definitions.specs.Matrix as Matrix;
 ghost use Rattle.definitions.specs.Real.{real, apply_f, sub_p};
 ghost use Rattle.symmetrize_positions.specs.Targets.{moved};
 
-use crate::site;
 use definitions::{Basis, Cells, Linear, Position};
 use math_matrix::{inverse, widened};
 use math_real::{position, whole};
@@ -13,7 +12,7 @@ use math_real::{position, whole};
 pub(crate) fn real_inverse(t: Linear) -> Basis
     ensures { result ≡ real (Matrix.inverse t) }
 {
-    whole::real32(inverse(widened(t)))
+    whole::real(inverse(widened(t)))
 }
 
 // m times p - shift
@@ -28,10 +27,8 @@ pub(crate) fn put_transformed(m: Basis, shift: Position, positions: &[Cells], he
     ensures { held.new
         ≡ moved m shift positions.now ++ drop (length positions.now) held.old }
 {
-    let mut i: usize = 0;
-    while i < positions.len() {
-        let p = transformed(m, shift, site::position_at(positions, i));
-        held[i] = position::cells_of(p);
-        i += 1;
+    for (i, p) in positions.iter().enumerate() {
+        let moved = transformed(m, shift, position::position_of(*p));
+        held[i] = position::cells_of(moved);
     }
 }

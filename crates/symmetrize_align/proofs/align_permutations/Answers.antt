@@ -19,4 +19,4 @@ pub returns : goal.returns
 returns c =
     let a = c.args in
     promise_refused a.t a.rotations.now a.images.now a.sites a.targets.now a.out.now
-    c.verdict-v.result _ c.in-Refused.is c.verdict-v.ensures _ c.clear_u8.ensures
+    c.verdict-v.result _ c.in-Refused.is c.verdict-v.ensures _ c.clear.ensures

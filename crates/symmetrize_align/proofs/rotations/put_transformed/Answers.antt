@@ -1,5 +1,5 @@
 -- `put_transformed`: the first i are the transformed rotations.
-use mathlib.Core.Path.{refl, sym, ◌∙◌}
+use mathlib.Core.Path.{sym, ◌∙◌}
 use mathlib.Core.List.{[], ◌++◌, map}
 use native.Mathlib.Omega.{arith}
 use lib.ListN.{length, drop, length-set, length-map}
@@ -8,18 +8,14 @@ use Rattle.laws.specs.Lists.{map_at}
 use Rattle.symmetrize_align.proofs.rotations.put_transformed.Goals as goal
 use Rattle.symmetrize_align.proofs.rotations.put_transformed.Invariants.{between}
 
-pub loop-i-init : goal.loop-i-init
-loop-i-init c = (omega arith, refl, refl)
-
 pub loop-i-preserved : goal.loop-i-preserved
 loop-i-preserved c =
     let l = c.loop-i in
     let a = c.args in
     let rs = a.rotations.now in
     let f = between c.unimodular_inverse-inverse.result c.widened-by.result in (
-      omega arith,
-      simp length-set l.invariant.1,
-      put_step [] (map f rs) a.moved.now l.moved l.i c.transform_by.result l.invariant.2
+      simp length-set l.invariant.0,
+      put_step [] (map f rs) a.moved.now l.moved l.i c.transform_by.result l.invariant.1
           (omega (arith, length-map rs f)) (omega arith)
           (c.transform_by.ensures ∙ sym (map_at f rs l.i [] [] (omega arith))),
     )
@@ -31,5 +27,5 @@ returns c =
     let rs = a.rotations.now in
     let i = c.unimodular_inverse-inverse in
     let f = between i.result c.widened-by.result in
-    put_end [] (map f rs) a.moved.now l.moved l.i (length rs) l.invariant.2 (length-map rs f) (omega arith)
+    put_end [] (map f rs) a.moved.now l.moved l.i (length rs) l.invariant.1 (length-map rs f) (omega arith)
     ∙ (λ k. map (between (i.ensures k) (c.widened-by.ensures k)) rs ++ drop (length rs) a.moved.now)

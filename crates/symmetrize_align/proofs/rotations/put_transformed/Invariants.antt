@@ -1,4 +1,3 @@
-use Prim.Native.Nat.{◌-◌, ◌≤◌}
 use mathlib.Core.Path.{◌≡◌}
 use mathlib.Core.List.{◌++◌, map}
 use lib.ListN.{length, take, drop}
@@ -11,8 +10,5 @@ between l m r = mul_m (mul_m l r) m
 
 abbrev pub invariant-loop-i : goal.invariant-loop-i
 invariant-loop-i l =
-    (l.i ≤ length l.rotations) × (length l.moved ≡ length l.initial.moved)
+    (length l.moved ≡ length l.initial.moved)
     × (l.moved ≡ take l.i (map (between l.inverse l.by) l.rotations) ++ drop l.i l.initial.moved)
-
-abbrev pub decreases-loop-i : goal.decreases-loop-i
-decreases-loop-i l = length l.rotations - l.i

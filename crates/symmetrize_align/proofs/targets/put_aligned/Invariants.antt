@@ -1,4 +1,4 @@
-use Prim.Native.Nat.{◌-◌, ◌*◌, ◌≤◌}
+use Prim.Native.Nat.{◌*◌}
 use mathlib.Core.Path.{◌≡◌}
 use lib.ListN.{length, drop}
 use Rattle.definitions.specs.Lists.{any}
@@ -9,9 +9,6 @@ use Rattle.symmetrize_align.proofs.targets.put_aligned.Given as goal
 
 abbrev pub invariant-loop-i : goal.invariant-loop-i
 invariant-loop-i l =
-    (l.i ≤ length l.targets) × (length l.out ≡ length l.initial.out) × (l.at ≡ l.i * l.n)
-    × Front (aligned_by l.moved l.images l.n) l.targets l.i l.at l.initial.out l.out
+    (length l.out ≡ length l.initial.out)
+    × Front (aligned_by l.moved l.images l.n) l.targets l.i (l.i * l.n) l.initial.out l.out
     × (any (λ g. is_none (last_of l.moved g)) (drop l.i l.targets) ≡ any (λ g. is_none (last_of l.moved g)) l.targets)
-
-abbrev pub decreases-loop-i : goal.decreases-loop-i
-decreases-loop-i l = length l.targets - l.i

@@ -25,6 +25,3 @@ returns-then-x-y c =
     let y = c.off_whole-then-x-y.ensures ∙ off_whole_is p.y fy (sym c.settles-y.ensures ∙ at.1) in
     let z = c.off_whole-then-x-y-2.ensures ∙ off_whole_is p.z fz (sym c.settles-z.ensures ∙ at.2) in
     λ i. record { x = x i; y = y i; z = z i }
-
-pub returns : goal.returns
-returns c = simp (c.off_round-3.ensures, c.off_round-2.ensures, c.off_round.ensures)

@@ -10,56 +10,55 @@ use Rattle.symmetrize_positions.specs.Targets.{more}
 use Rattle.symmetrize_positions.proofs.Making.{Turns, permuted, make_start, make_step, make_end}
 use Rattle.symmetrize_positions.proofs.Sums.{more_is}
 use Rattle.symmetrize_positions.proofs.targets.add_target.Goals as goal
-use Rattle.symmetrize_positions.proofs.targets.add_target.Goals.{After-wide-i, Start}
+use Rattle.symmetrize_positions.proofs.targets.add_target.Goals.{After-from-i, Start}
 
 turns : (s : Start) → Turns (length s.args.positions.now) (image s.args.images.now) (inverse_image s.args.images.now)
 turns s = permuted (length s.args.positions.now) s.args.images.now s.requires.1
 
 -- an image is a site
-below : (w : After-wide-i) → w.wide-i.result < length w.args.positions.now
+below : (w : After-from-i) → w.from-i.result < length w.args.positions.now
 below w =
     let l = w.loop-j in
     let k : l.j < length w.args.positions.now = omega arith in
-    omega (arith, w.wide-i.ensures, (turns (goal.at.After-wide-i w).Start).below l.j k)
+    omega (arith, w.from-i.ensures, (turns (goal.at.After-from-i w).Start).below l.j k)
 
-in_list : (w : After-wide-i) → w.wide-i.result < length w.loop-j.out
+in_list : (w : After-from-i) → w.from-i.result < length w.loop-j.out
 in_list w = omega (arith, below w)
 
 pub loop-j-init : goal.loop-j-init
-loop-j-init c = let a = c.args in (omega arith, search rules, make_start (length a.positions.now) (inverse_image a.images.now) (more a.positions.now a.m a.translation a.images.now) a.out.now)
+loop-j-init c = let a = c.args in (search rules, make_start (length a.positions.now) (inverse_image a.images.now) (more a.positions.now a.m a.translation a.images.now) a.out.now)
 
 pub position_at-requires : goal.position_at-requires
-position_at-requires c = omega (arith, below (goal.at.position_at-requires c).After-wide-i)
+position_at-requires c = omega (arith, below (goal.at.position_at-requires c).After-from-i)
 
 pub offset_bounds-out-i : goal.offset_bounds-out-i
-offset_bounds-out-i c = let h = in_list (goal.at.offset_bounds-out-i c).After-wide-i in search rules
+offset_bounds-out-i c = let h = in_list (goal.at.offset_bounds-out-i c).After-from-i in search rules
 
 pub slice_copy_out-grown : goal.slice_copy_out-grown
-slice_copy_out-grown c = omega (arith, in_list (goal.at.slice_copy_out-grown c).After-wide-i)
+slice_copy_out-grown c = omega (arith, in_list (goal.at.slice_copy_out-grown c).After-from-i)
 
 pub offset_bounds-out-i-in-loop-j : goal.offset_bounds-out-i-in-loop-j
-offset_bounds-out-i-in-loop-j c = let h = in_list (goal.at.offset_bounds-out-i-in-loop-j c).After-wide-i in search rules
+offset_bounds-out-i-in-loop-j c = let h = in_list (goal.at.offset_bounds-out-i-in-loop-j c).After-from-i in search rules
 
 pub bounds-out-i : goal.bounds-out-i
-bounds-out-i c = omega (arith, in_list (goal.at.bounds-out-i c).After-wide-i)
+bounds-out-i c = omega (arith, in_list (goal.at.bounds-out-i c).After-from-i)
 
 pub loop-j-preserved : goal.loop-j-preserved
 loop-j-preserved c =
     let l = c.loop-j in
     let a = c.args in
     let ps = a.positions.now in
-    let i = c.wide-i.result in
+    let i = c.from-i.result in
     let k : l.j < length ps = omega arith in
     let room : length ps ≤ length l.out = omega arith in
-    let its = ap (inverse_image a.images.now) c.wide-i.ensures ∙ (turns (goal.at.loop-j-preserved c).Start).back l.j k in
+    let its = ap (inverse_image a.images.now) c.from-i.ensures ∙ (turns (goal.at.loop-j-preserved c).Start).back l.j k in
     let x = more_is ps a.m a.translation a.images.now i l.j (get_or l.out i []) c.grown.result _ _ _ its c.position_at-q.ensures c.position_at.ensures c.displacement-d.ensures c.grown.ensures in (
-      omega arith,
-      simp length-set l.invariant.1,
-      make_step (length ps) (image a.images.now) (inverse_image a.images.now) (turns (goal.at.loop-j-preserved c).Start) (more ps a.m a.translation a.images.now) a.out.now l.out l.j i c.grown.result room k c.wide-i.ensures x l.invariant.2,
+      simp length-set l.invariant.0,
+      make_step (length ps) (image a.images.now) (inverse_image a.images.now) (turns (goal.at.loop-j-preserved c).Start) (more ps a.m a.translation a.images.now) a.out.now l.out l.j i c.grown.result room k c.from-i.ensures x l.invariant.1,
     )
 
 pub returns : goal.returns
 returns c =
     let l = c.loop-j in
     let a = c.args in
-    make_end (length a.positions.now) (image a.images.now) (inverse_image a.images.now) (turns (goal.at.returns c).Start) (more a.positions.now a.m a.translation a.images.now) a.out.now l.out l.j (omega arith) l.invariant.2
+    make_end (length a.positions.now) (image a.images.now) (inverse_image a.images.now) (turns (goal.at.returns c).Start) (more a.positions.now a.m a.translation a.images.now) a.out.now l.out l.j (omega arith) l.invariant.1

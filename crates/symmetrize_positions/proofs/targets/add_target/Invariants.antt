@@ -1,4 +1,3 @@
-use Prim.Native.Nat.{◌-◌, ◌≤◌}
 use mathlib.Core.Path.{◌≡◌}
 use lib.ListN.{length}
 use Rattle.definitions.specs.Permutation.{inverse_image}
@@ -7,7 +6,4 @@ use Rattle.symmetrize_positions.proofs.Making.{MadeTo}
 use Rattle.symmetrize_positions.proofs.targets.add_target.Given as goal
 
 abbrev pub invariant-loop-j : goal.invariant-loop-j
-invariant-loop-j l = (l.j ≤ length l.positions) × (length l.out ≡ length l.initial.out) × MadeTo (length l.positions) (inverse_image l.images) (more l.positions l.m l.translation l.images) l.initial.out l.j l.out
-
-abbrev pub decreases-loop-j : goal.decreases-loop-j
-decreases-loop-j l = length l.images - l.j
+invariant-loop-j l = (length l.out ≡ length l.initial.out) × MadeTo (length l.positions) (inverse_image l.images) (more l.positions l.m l.translation l.images) l.initial.out l.j l.out

@@ -1,5 +1,5 @@
 -- `put_transformed`: the first i cells are those of the transformed positions.
-use mathlib.Core.Path.{refl, sym, ap, ◌∙◌}
+use mathlib.Core.Path.{sym, ap, ◌∙◌}
 use mathlib.Core.List.{[]}
 use native.Mathlib.Omega.{arith}
 use lib.ListN.{length, length-set, length-map}
@@ -10,19 +10,15 @@ use Rattle.symmetrize_positions.specs.Targets.{moved, moved_cells}
 use Rattle.laws.specs.Filling.{put_step, put_end}
 use Rattle.symmetrize_positions.proofs.transform.put_transformed.Goals as goal
 
-pub loop-i-init : goal.loop-i-init
-loop-i-init c = (omega arith, refl, refl)
-
 pub loop-i-preserved : goal.loop-i-preserved
 loop-i-preserved c =
     let l = c.loop-i in
     let a = c.args in
     let ps = a.positions.now in
     let f = moved_cells a.m a.shift in
-    let x = c.cells_of.ensures ∙ ap cells_of (c.transformed-p.ensures ∙ ap (λ p. apply_f a.m (sub_p p a.shift)) c.position_at.ensures) ∙ sym (map_at f ps l.i [] zero_cells (omega arith)) in (
-      omega arith,
-      simp length-set l.invariant.1,
-      put_step zero_cells (moved a.m a.shift ps) a.held.now l.held l.i c.cells_of.result l.invariant.2 (omega (arith, length-map ps f)) (omega arith) x,
+    let x = c.cells_of.ensures ∙ ap cells_of (c.transformed-moved.ensures ∙ ap (λ p. apply_f a.m (sub_p p a.shift)) c.position_of.ensures) ∙ sym (map_at f ps l.i [] zero_cells (omega arith)) in (
+      simp length-set l.invariant.0,
+      put_step zero_cells (moved a.m a.shift ps) a.held.now l.held l.i c.cells_of.result l.invariant.1 (omega (arith, length-map ps f)) (omega arith) x,
     )
 
 pub returns : goal.returns
@@ -30,4 +26,4 @@ returns c =
     let l = c.loop-i in
     let a = c.args in
     let ps = a.positions.now in
-    put_end zero_cells (moved a.m a.shift ps) a.held.now l.held l.i (length ps) l.invariant.2 (length-map ps (moved_cells a.m a.shift)) (omega arith)
+    put_end zero_cells (moved a.m a.shift ps) a.held.now l.held l.i (length ps) l.invariant.1 (length-map ps (moved_cells a.m a.shift)) (omega arith)

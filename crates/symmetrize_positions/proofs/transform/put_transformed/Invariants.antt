@@ -1,4 +1,3 @@
-use Prim.Native.Nat.{◌-◌, ◌≤◌}
 use mathlib.Core.Path.{◌≡◌}
 use mathlib.Core.List.{◌++◌}
 use lib.ListN.{length, take, drop}
@@ -6,7 +5,4 @@ use Rattle.symmetrize_positions.specs.Targets.{moved}
 use Rattle.symmetrize_positions.proofs.transform.put_transformed.Given as goal
 
 abbrev pub invariant-loop-i : goal.invariant-loop-i
-invariant-loop-i l = (l.i ≤ length l.positions) × (length l.held ≡ length l.initial.held) × (l.held ≡ take l.i (moved l.m l.shift l.positions) ++ drop l.i l.initial.held)
-
-abbrev pub decreases-loop-i : goal.decreases-loop-i
-decreases-loop-i l = length l.positions - l.i
+invariant-loop-i l = (length l.held ≡ length l.initial.held) × (l.held ≡ take l.i (moved l.m l.shift l.positions) ++ drop l.i l.initial.held)
