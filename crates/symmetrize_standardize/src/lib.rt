@@ -18,7 +18,7 @@ use definitions::limits::{MOST_CANDIDATES, MOST_IMAGES};
 use definitions::{
     Basis, Cells, Linear, Point, Position, Rotation, SnfMatrix, Standardized, Text, Verdict,
 };
-use lent::{clear_cells, clear_i32, clear_points, clear_u8, clear_u16};
+use lent::clear;
 use symmetrize_align::align_permutations;
 use symmetrize_lattice::symmetrize_lattice;
 
@@ -526,14 +526,14 @@ pub fn clear_answer(
           factors = factors.new;
         }) nothing_answered }
 {
-    clear_cells(out_positions, 0);
-    clear_points(out_points, 0);
-    clear_u16(mapping, 0);
-    clear_i32(out_elements, 0);
-    clear_u16(labels, 0);
-    clear_u16(multiplicities, 0);
-    clear_u8(letters, 0);
-    clear_cells(primitive, 0);
+    clear(out_positions, 0);
+    clear(out_points, 0);
+    clear(mapping, 0);
+    clear(out_elements, 0);
+    clear(labels, 0);
+    clear(multiplicities, 0);
+    clear(letters, 0);
+    clear(primitive, 0);
     *primitive_basis = NO_BASIS;
     *listed_basis = NO_BASIS;
     *factors = [0, 0, 0];

@@ -9,20 +9,11 @@ use base_cell::label_orbits;
 use definitions::{Basis, Cells, Rotation, SnfMatrix, Standardized, refusal};
 use symmetrize_wyckoff::assign_wyckoffs_by_orbit;
 
-fn number(x: u16) -> usize
-    ensures { result ≡ x }
-{
-    x as usize
-}
-
 // 1 where the site j is its own label
 fn own_label(label: u16, j: usize) -> usize
     ensures { result ≡ cond (eqb label j) 1 0 }
 {
-    if number(label) == j {
-        return 1;
-    }
-    0
+    usize::from(usize::from(label) == j)
 }
 
 // An orbit has one site that is its label.
@@ -30,10 +21,8 @@ fn count_orbits(labels: &[u16]) -> usize
     ensures { result ≡ length (orbits labels.now) }
 {
     let mut count: usize = 0;
-    let mut j: usize = 0;
-    while j < labels.len() {
-        count += own_label(labels[j], j);
-        j += 1;
+    for (j, label) in labels.iter().enumerate() {
+        count += own_label(*label, j);
     }
     count
 }

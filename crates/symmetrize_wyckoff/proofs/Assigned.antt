@@ -1,31 +1,28 @@
 -- How the step keeps its promise: by the guard, by a table of the letters and by what was written from it.
 use Prim.Native.Nat.{ℕ, suc, ◌≤◌, ◌<◌}
-use mathlib.Core.Path.{◌≡◌, refl, sym, ap, ap₂, ◌∙◌, subst}
+use mathlib.Core.Path.{◌≡◌, refl, sym, ap, ap₂, ◌∙◌}
 use mathlib.Core.Bool.{Bool, true, false, not, ◌&&◌, ◌||◌}
 use mathlib.Core.List.{List, [], ◌∷◌, ◌++◌, map}
 use mathlib.Core.Option.{Option, none, some}
 use native.Mathlib.Omega.{arith}
-use borrow.Author.Tests.{eq-eqb, ne_eqb, eqb-true}
+use borrow.Author.Tests.{eqb-true}
 use lib.Dec.{eqb}
-use lib.Ieee.{Float}
 use lib.ListN.{length, get_or, drop, length-map}
-use Rattle.definitions.specs.Lent.{position_from, cells_of}
-use Rattle.definitions.specs.Limits.{most_listed}
+use Rattle.definitions.specs.Limits.{most_candidates, most_listed}
 use Rattle.definitions.specs.Lists.{all}
-use Rattle.definitions.specs.Real.{RealMatrix, real}
 use Rattle.definitions.specs.Refusal.{padded}
 use Rattle.definitions.specs.Transformation.{is_none}
 use Rattle.definitions.specs.Wyckoff.{letter_of, letter_or, letters}
 use Rattle.definitions.specs.SiteCalls.{AssignArguments, sites_in, assignable, all_lettered, Assigned}
 use Rattle.base_cell.specs.Grouping.{Below}
-use Rattle.laws.specs.Counting.{all_at}
 use Rattle.laws.specs.Filling.{cut, padded_by}
-use Rattle.laws.specs.Tests.{never}
-use Rattle.symmetrize_match.specs.Match.{space_of, diagonal_of}
+use Rattle.symmetrize_match.specs.declared.RealSpace.{RealSpace}
 use Rattle.symmetrize_wyckoff.specs.Walk.{walked}
-use Rattle.symmetrize_wyckoff.specs.Prepared.{RealCandidates, found_by, IsPrepared, PutAs, CountedAll, Assignable}
+use Rattle.symmetrize_wyckoff.specs.Prepared.{RealCandidates, found_by, IsPrepared, PutSpaces, Assignable}
 use Rattle.symmetrize_wyckoff.specs.Prepared.{walked-prepared}
-use Rattle.symmetrize_wyckoff.specs.Prepared.{no_letter, Notes, NotesAll, is_noted, Written, Walkable, Together}
+use Rattle.symmetrize_wyckoff.specs.Prepared.{found, NotesAll, is_noted, noted_letter, Written, Walkable, Together}
+use Rattle.std.specs.Prelude.{is_some, Option as Found, None}
+use Rattle.std.specs.Option.{unwrap_or}
 
 -- ---- lists by their places
 
@@ -47,13 +44,13 @@ nothing_in (a ∷ l) e = absurd (omega arith)
 
 -- ---- what a cell says
 
-has_letter : (o : Option ℕ) (c : ℕ) → Notes o c → not (eqb c no_letter) ≡ not (is_none o)
-has_letter none c h = ap not (eq-eqb c no_letter h)
-has_letter (some b) c h = ap not (ne_eqb c no_letter (λ q. omega (arith, h)))
+has_letter : (o : Option ℕ) → is_some (found o) ≡ not (is_none o)
+has_letter none = refl
+has_letter (some b) = refl
 
-its_letter : (o : Option ℕ) (c : ℕ) → Notes o c → not (eqb c no_letter) ≡ true → c ≡ letter_or o
-its_letter none c h e = absurd (never (sym (ap not (eq-eqb c no_letter h)) ∙ e))
-its_letter (some b) c h e = h.0
+its_letter : (o : Option ℕ) → unwrap_or (found o) 0 ≡ letter_or o
+its_letter none = refl
+its_letter (some b) = refl
 
 -- ---- the promise
 
@@ -79,26 +76,23 @@ module _ (x : AssignArguments) (entry exit : List ℕ) where
         letters = h ∙ ap (λ l. padded 0 l (length entry)) (sym (no_letters empty));
       }
 
-  module _ (ready : Assignable x) (given : assignable x (length entry) ≡ true) (table : List ℕ)
+  module _ (ready : Assignable x) (given : assignable x (length entry) ≡ true) (table : List (Found ℕ))
       (noted : NotesAll (letter_of (sites_in x)) table) where
     cell :
         (i : ℕ) → i < length x.labels →
-        Notes (letter_of (sites_in x) (get_or x.labels i 0)) (get_or table (get_or x.labels i 0) 0)
+        get_or table (get_or x.labels i 0) None ≡ found (letter_of (sites_in x) (get_or x.labels i 0))
     cell i h = noted (get_or x.labels i 0) (omega (arith, ready.below i h, ready.listed))
 
     all_noted : all (is_noted table) x.labels ≡ all_lettered (sites_in x)
     all_noted =
         all_on (is_noted table) (λ l. not (is_none (letter_of (sites_in x) l))) x.labels
-        (λ i h. has_letter (letter_of (sites_in x) (get_or x.labels i 0)) (get_or table (get_or x.labels i 0) 0)
-        (cell i h))
+        (λ i h. ap is_some (cell i h) ∙ has_letter (letter_of (sites_in x) (get_or x.labels i 0)))
 
-    letters_are : all (is_noted table) x.labels ≡ true → map (λ l. get_or table l 0) x.labels ≡ letters (sites_in x)
+    letters_are : map (noted_letter table) x.labels ≡ letters (sites_in x)
     unfolding letters
-    letters_are e =
-        map_on (λ l. get_or table l 0) (λ l. letter_or (letter_of (sites_in x) l)) x.labels
-        (λ i h. its_letter (letter_of (sites_in x) (get_or x.labels i 0)) (get_or table (get_or x.labels i 0) 0)
-        (cell i h)
-        (all_at (is_noted table) 0 x.labels e i h))
+    letters_are =
+        map_on (noted_letter table) (λ l. letter_or (letter_of (sites_in x) l)) x.labels
+        (λ i h. ap (λ c. unwrap_or c 0) (cell i h) ∙ its_letter (letter_of (sites_in x) (get_or x.labels i 0)))
 
     length-letters : length (letters (sites_in x)) ≡ length x.labels
     unfolding letters
@@ -126,7 +120,7 @@ module _ (x : AssignArguments) (entry exit : List ℕ) where
           judged = judge true (sym t ∙ wr.judged);
           letters =
               padded_by 0 (letters (sites_in x)) entry exit mid (length x.labels) length-letters room
-              (wr.written t ∙ ap (λ l. l ++ drop (length x.labels) entry) (letters_are (sym wr.judged ∙ t))) h;
+              (wr.written t ∙ ap (λ l. l ++ drop (length x.labels) entry) letters_are) h;
         }
 
 -- ---- the table
@@ -145,52 +139,46 @@ module _ (x : AssignArguments) (ready : Assignable x) where
   pub labels_below : Below most_listed x.labels
   labels_below k h = omega (arith, ready.below k h, ready.listed)
 
-  pub together : Together x.candidates x.letters x.spaces.shifts
-  together = record { few = ready.few; a_letter = ready.letters; a_shift = ready.shifts }
+  pub fewest : (length x.spaces.matrices ≤ most_candidates) × (length x.spaces.shifts ≡ length x.spaces.matrices)
+      × (length x.spaces.ds ≡ length x.spaces.matrices) × (length x.spaces.ls ≡ length x.spaces.matrices)
+      × (length x.spaces.rs ≡ length x.spaces.matrices)
+  fewest = (
+    omega (arith, ready.few, ready.matrices),
+    ready.shifts ∙ sym ready.matrices,
+    ready.ds ∙ sym ready.matrices,
+    ready.ls ∙ sym ready.matrices,
+    ready.rs ∙ sym ready.matrices,
+  )
 
-  module _ (ms : List RealMatrix) (dd : List (List Float)) (ll rr : List RealMatrix)
-      (put-ms : PutAs real x.spaces.matrices ms) (put-dd : PutAs (λ d. cells_of (diagonal_of d)) x.spaces.ds dd)
-      (counted : CountedAll x.spaces.ds) (put-ll : PutAs real x.spaces.ls ll)
-      (put-rr : PutAs real x.spaces.rs rr) where
+  module _ (spaces : List RealSpace) where
     abbrev tables : RealCandidates
-    tables =
-        record {
-          multiplicities = x.candidates;
-          matrices = ms;
-          shifts = x.spaces.shifts;
-          diagonals = dd;
-          lefts = ll;
-          rights = rr;
-        }
+    tables = record { multiplicities = x.candidates; letters = x.letters; spaces = spaces }
 
-    is_prepared : IsPrepared x tables
-    is_prepared =
-        record {
-          multiplicities = refl;
-          space = λ k h. λ i.
-              space_of
-              (put-ms k (omega (arith, ready.matrices)) i)
-              (position_from (get_or x.spaces.shifts k []))
-              (position_from (put-dd k (omega (arith, ready.ds)) i))
-              (put-ll k (omega (arith, ready.ls)) i)
-              (put-rr k (omega (arith, ready.rs)) i);
-          counted = λ k h. counted k (omega (arith, ready.ds));
-        }
+    pub together : length spaces ≡ most_candidates → Together tables
+    together e = record { a_letter = ready.letters; a_space = omega (arith, ready.few) }
 
-    -- what the walk notes by the tables is the letters of the orbits
-    pub noted_letters :
-        (table : List ℕ) →
-        NotesAll
-        (walked
-        (found_by
-        (record {
-          multiplicities = x.multiplicities;
-          positions = x.positions;
-          basis = x.basis;
-          symprec = x.symprec;
-          candidates = tables;
-          letters = x.letters;
-        })) x.labels (length x.labels)) table →
-        NotesAll (letter_of (sites_in x)) table
-    noted_letters table h l b =
-        subst (λ o. Notes o (get_or table l 0)) (walked-prepared x tables is_prepared ready.positions l) (h l b)
+    module _ (put : PutSpaces x.spaces (length x.spaces.matrices) spaces) where
+      is_prepared : IsPrepared x tables
+      is_prepared =
+          record {
+            multiplicities = refl;
+            letters = refl;
+            space = λ k h. (put k (omega (arith, ready.matrices))).0;
+            counted = λ k h. (put k (omega (arith, ready.matrices))).1;
+          }
+
+      -- what the walk notes by the tables is the letters of the orbits
+      pub noted_letters :
+          (table : List (Found ℕ)) →
+          NotesAll
+          (walked
+          (found_by
+          (record {
+            multiplicities = x.multiplicities;
+            positions = x.positions;
+            basis = x.basis;
+            symprec = x.symprec;
+            candidates = tables;
+          })) x.labels (length x.labels)) table →
+          NotesAll (letter_of (sites_in x)) table
+      noted_letters table h l b = h l b ∙ ap found (walked-prepared x tables is_prepared ready.positions l)

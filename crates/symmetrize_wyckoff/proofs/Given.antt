@@ -1,6 +1,6 @@
 -- The tests of the guard, as the code joins them and as the definition does; and what they say where they hold.
 use Prim.Native.Nat.{ℕ, ◌≤◌}
-use mathlib.Core.Path.{◌≡◌, refl, sym, ap, ◌∙◌}
+use mathlib.Core.Path.{◌≡◌, refl, sym}
 use mathlib.Core.Bool.{Bool, true, false, not, ◌&&◌, ◌||◌}
 use mathlib.Core.List.{List, [], ◌∷◌}
 use borrow.Author.Tests.{ltb-true, ltb-false, le-leb, lt-leb, eqb-true, not-false}
@@ -20,53 +20,6 @@ at_most a b = by (ltb b a) refl
     by : (t : Bool) → ltb b a ≡ t → leb a b ≡ not t
     by true e = lt-leb a b (ltb-true b a e)
     by false e = le-leb a b (ltb-false b a e)
-
-pub two_alike : (n a b : ℕ) → (eqb n a && eqb n b) ≡ not (any (unlike n) (a ∷ b ∷ []))
-unfolding any
-two_alike n a b = by (eqb n a) (eqb n b)
-  where
-    by :
-        (x y : Bool) →
-        (x && y)
-        ≡ not
-        (elim (not x) as (λ (u : Bool). Bool) [
-          | true ↦ true
-          | false ↦ elim
-              (not y) as (λ (u : Bool). Bool) [ true ↦ true | false ↦ false ]
-        ])
-    by true true = refl
-    by true false = refl
-    by false y = refl
-
--- one more at the front
-alike_more : (n a : ℕ) (l : List ℕ) → not (any (unlike n) (a ∷ l)) ≡ (eqb n a && not (any (unlike n) l))
-unfolding any
-alike_more n a l = by (eqb n a)
-  where
-    by :
-        (x : Bool) → not (elim (not x) as (λ (u : Bool). Bool) [ true ↦ true | false ↦ any (unlike n) l ])
-        ≡ (x && not (any (unlike n) l))
-    by true = refl
-    by false = refl
-
-and_assoc : (a b c : Bool) → (a && b && c) ≡ (a && (b && c))
-and_assoc true b c = refl
-and_assoc false b c = refl
-
-pub six_alike :
-    (n a b c d e f : ℕ) →
-    (eqb n a && eqb n b && eqb n c && eqb n d && eqb n e && eqb n f)
-    ≡ not (any (unlike n) (a ∷ b ∷ c ∷ d ∷ e ∷ f ∷ []))
-six_alike n a b c d e f =
-    and_assoc (eqb n a && eqb n b && eqb n c && eqb n d) (eqb n e) (eqb n f)
-    ∙ ap (λ t. eqb n a && eqb n b && eqb n c && eqb n d && t) (two_alike n e f)
-    ∙ and_assoc (eqb n a && eqb n b && eqb n c) (eqb n d) (not (any (unlike n) (e ∷ f ∷ [])))
-    ∙ ap (λ t. eqb n a && eqb n b && eqb n c && t) (sym (alike_more n d (e ∷ f ∷ [])))
-    ∙ and_assoc (eqb n a && eqb n b) (eqb n c) (not (any (unlike n) (d ∷ e ∷ f ∷ [])))
-    ∙ ap (λ t. eqb n a && eqb n b && t) (sym (alike_more n c (d ∷ e ∷ f ∷ [])))
-    ∙ and_assoc (eqb n a) (eqb n b) (not (any (unlike n) (c ∷ d ∷ e ∷ f ∷ [])))
-    ∙ ap (λ t. eqb n a && t) (sym (alike_more n b (c ∷ d ∷ e ∷ f ∷ [])))
-    ∙ sym (alike_more n a (b ∷ c ∷ d ∷ e ∷ f ∷ []))
 
 -- six tests, each as another
 pub six-same :

@@ -1,7 +1,5 @@
--- Laws of the walk's code: stores into tables, the search among candidates, the table of letters, the guard's tests,
--- and
--- how the step keeps its promise. Then those of the letter call: the design's sites, and its verdict from its parts.
-pub mod Stores
+-- Laws of the walk's code: the search among candidates, the table of letters, the guard's tests, and how the step keeps
+-- its promise. Then those of the letter call: the design's sites, and its verdict from its parts.
 pub mod Tables
 pub mod Given
 pub mod Assigned

@@ -1,10 +1,10 @@
 -- What the parts of the letter call promise: the tests of what is given, the walk over labelled sites, the labels with
 -- their letters, and the verdict of all.
-use Rattle.std.specs.Prelude.{ℕ, ◌≤◌, ◌≡◌, true, false, ◌||◌, List, map, Float, length, take}
+use Rattle.std.specs.Prelude.{ℕ, Bool, ◌≤◌, ◌≡◌, true, false, ◌||◌, List, map, Float, length, take}
 use Rattle.definitions.specs.declared.Verdict.{Verdict}
 use Rattle.definitions.specs.declared.Verdict.TheVariants.{Accepted, Refused}
-use Rattle.definitions.specs.Lent.{cells_of, bad_permutation_counts, bad_images}
-use Rattle.definitions.specs.Limits.{most_candidates, too_many_listed, shorter_than}
+use Rattle.definitions.specs.Lent.{cells_of, unlike, bad_permutation_counts, bad_images}
+use Rattle.definitions.specs.Limits.{most_candidates, too_many_candidates, too_many_listed, shorter_than}
 use Rattle.definitions.specs.Lists.{any}
 use Rattle.definitions.specs.Orbit.{Labels, multiplicities}
 use Rattle.definitions.specs.Real.{RealMatrix}
@@ -17,6 +17,14 @@ use Rattle.definitions.specs.SiteCalls.{Assigned}
 use Rattle.laws.specs.Verdicts.{Passed}
 
 -- ---- what is given
+
+-- 2, but for the permutations: a multiplicity, a letter and a text a candidate, a position a mapping entry
+abbrev pub bad_lists : LetterArguments → Bool
+bad_lists x =
+    too_many_candidates (length x.texts)
+    || unlike (length x.multiplicities) (length x.texts)
+    || unlike (length x.letters) (length x.texts)
+    || unlike (length x.labelling.mapping) (length x.positions)
 
 -- past 2, 4 and 5, or refused with the first of them that applies, whatever room is lent
 abbrev pub GivenJudged : LetterArguments → Verdict → Type 0

@@ -8,3 +8,4 @@ pub mod Walk
 pub mod Unfit
 pub mod Prepared
 pub mod Lettering
+pub mod Given

@@ -1,46 +1,48 @@
--- Candidates prepared for the walk, as the code has them: M, L, R and D's diagonal as floats, one entry a candidate;
--- what
--- is found at a site by them, and a table of the letters by label.
+-- Candidates prepared for the walk, as the code has them: a multiplicity, a letter and a space as floats each; what is
+-- found at a site by them, and a table of the letters by label.
 use Prim.Native.Nat.{ℕ, ◌≤◌, ◌<◌}
-use Rattle.std.specs.Prelude.{◌≡◌, refl, true, ◌&&◌, not, drop, ltb, Float}
+use Rattle.std.specs.Prelude.{◌≡◌, refl, true, ◌&&◌, drop, Float, is_some, Option as Found, Some, None}
+use Rattle.std.specs.Option.{unwrap_or}
 use Rattle.std.proofs.Math.Path.{sym, ap}
 use Rattle.std.proofs.Common.{◌∙◌, arith}
 use Rattle.std.proofs.Math.Bool.{Bool}
-use mathlib.Core.List.{List, [], ◌∷◌, ◌++◌, map}
+use mathlib.Core.List.{List, [], ◌++◌, map}
 use Rattle.std.proofs.Math.Option.{Option, none, some}
 use Rattle.std.proofs.Math.ListN.{length, get_or}
 use Rattle.std.proofs.Math.Dec.{eqb}
+use lib.Ieee.{nan}
 use Rattle.definitions.specs.declared.Position.{Position}
-use Rattle.definitions.specs.Limits.{most_candidates, most_listed, too_many_listed, too_many_candidates, shorter_than}
-use Rattle.definitions.specs.Lists.{all, any, first, up_to}
-use Rattle.definitions.specs.Matrix.{Matrix}
+use Rattle.definitions.specs.Limits.{most_candidates, most_listed}
+use Rattle.definitions.specs.Lists.{all, first, up_to}
 use Rattle.definitions.specs.Real.{RealMatrix, origin}
-use Rattle.definitions.specs.Lent.{position_from, unlike}
-use Rattle.definitions.specs.Wyckoff.{Choice, position_fits, candidate_for, letter_of}
-use Rattle.definitions.specs.SiteCalls.{AssignArguments, choice_at, sites_in}
+use Rattle.definitions.specs.Lent.{position_from}
+use Rattle.definitions.specs.Wyckoff.{Space, Choice, position_fits, candidate_for, letter_of}
+use Rattle.definitions.specs.SiteCalls.{AssignArguments, SpaceCells, space_from, choice_at, sites_in}
 use Rattle.base_cell.specs.Grouping.{Below}
 use Rattle.laws.specs.Lists.{map_at, from_up_to}
-use Rattle.symmetrize_match.specs.Match.{RealSpace, space_of, real_space, CountedDiagonal, match_real}
+use Rattle.symmetrize_match.specs.declared.RealSpace.{RealSpace}
+use Rattle.symmetrize_match.specs.Match.{space_of, real_space, CountedDiagonal, match_real}
 use Rattle.symmetrize_match.specs.Match.{match_is}
 use Rattle.symmetrize_wyckoff.specs.Firsts.{mapped, first_map, first_same}
 use Rattle.symmetrize_wyckoff.specs.Walk.{is_fit, fits_is, walked, walked_same, found_at, letter_walked}
 
 -- ---- what a site finds
 
--- candidates: multiplicities, and spaces as floats, a diagonal as three of them
+-- candidates: multiplicities, letters and spaces as floats
 pub record RealCandidates : Type 0 where
   pub multiplicities : List ℕ
-  pub matrices : List RealMatrix
-  pub shifts : List (List Float)
-  pub diagonals : List (List Float)
-  pub lefts : List RealMatrix
-  pub rights : List RealMatrix
+  pub letters : List ℕ
+  pub spaces : List RealSpace
+
+-- what a place behind a list of spaces is read as
+abbrev no_point : Position
+no_point = record { x = nan; y = nan; z = nan }
+
+abbrev pub no_space : RealSpace
+no_space = space_of [] no_point no_point [] []
 
 abbrev pub space_at : RealCandidates → ℕ → RealSpace
-space_at cs k =
-    space_of (get_or cs.matrices k []) (position_from (get_or cs.shifts k []))
-    (position_from (get_or cs.diagonals k []))
-    (get_or cs.lefts k []) (get_or cs.rights k [])
+space_at cs k = get_or cs.spaces k no_space
 
 -- "A candidate is tried only where its multiplicity equals the orbit's"
 unfoldable pub fits_real : RealMatrix → Float → ℕ → Position → RealCandidates → ℕ → Bool
@@ -48,9 +50,9 @@ fits_real basis symprec m p cs k =
     eqb (get_or cs.multiplicities k 0) m && is_fit (match_real basis symprec (space_at cs k) p)
 
 -- the letter of the first candidate, in list order, that a position fits
-unfoldable pub found_real : RealMatrix → Float → ℕ → Position → RealCandidates → List ℕ → Option ℕ
-found_real basis symprec m p cs letters =
-    mapped (λ k. get_or letters k 0) (first (fits_real basis symprec m p cs) (up_to (length cs.multiplicities)))
+unfoldable pub found_real : RealMatrix → Float → ℕ → Position → RealCandidates → Option ℕ
+found_real basis symprec m p cs =
+    mapped (λ k. get_or cs.letters k 0) (first (fits_real basis symprec m p cs) (up_to (length cs.multiplicities)))
 
 -- one at each listed site
 pub record RealSites : Type 0 where
@@ -59,18 +61,15 @@ pub record RealSites : Type 0 where
   pub basis : RealMatrix
   pub symprec : Float
   pub candidates : RealCandidates
-  pub letters : List ℕ
 
 abbrev pub found_by : RealSites → ℕ → Option ℕ
 found_by g j =
-    found_real g.basis g.symprec (get_or g.multiplicities j 0) (position_from (get_or g.positions j []))
-    g.candidates g.letters
+    found_real g.basis g.symprec (get_or g.multiplicities j 0) (position_from (get_or g.positions j [])) g.candidates
 
 -- lists that belong together
-pub record Together (multiplicities letters : List ℕ) (shifts : List (List Float)) : Type 0 where
-  pub few : length multiplicities ≤ most_candidates
-  pub a_letter : length letters ≡ length multiplicities
-  pub a_shift : length shifts ≡ length multiplicities
+pub record Together (cs : RealCandidates) : Type 0 where
+  pub a_letter : length cs.letters ≡ length cs.multiplicities
+  pub a_space : length cs.multiplicities ≤ length cs.spaces
 
 pub record Walkable (ls ms : List ℕ) (ps : List (List Float)) : Type 0 where
   pub listed : length ls ≤ most_listed
@@ -78,54 +77,43 @@ pub record Walkable (ls ms : List ℕ) (ps : List (List Float)) : Type 0 where
   pub multiplicities : length ms ≡ length ls
   pub positions : length ps ≡ length ls
 
--- one entry a candidate, each made by f
-abbrev pub PutAs : {A B : Type 0} → (List A → List B) → List (List A) → List (List B) → Type 0
-PutAs f ms out = (k : ℕ) → k < length ms → get_or out k [] ≡ f (get_or ms k [])
+-- the candidate k's space in lent lists
+abbrev pub lent_space : SpaceCells → ℕ → Space
+lent_space e k =
+    space_from (get_or e.matrices k []) (get_or e.shifts k [])
+    (record { d = get_or e.ds k []; l = get_or e.ls k []; r = get_or e.rs k [] })
 
-abbrev pub CountedAll : List Matrix → Type 0
-CountedAll ds = (k : ℕ) → k < length ds → CountedDiagonal (get_or ds k [])
+-- those of the first n, as floats, which count their diagonals
+abbrev pub PutSpaces : SpaceCells → ℕ → List RealSpace → Type 0
+PutSpaces e n out =
+    (k : ℕ) → k < n →
+    (get_or out k no_space ≡ real_space (lent_space e k)) × CountedDiagonal (lent_space e k).snf.d
 
 -- ---- the table
 
--- the cell of a label that has no letter yet
-abbrev pub no_letter : ℕ
-no_letter = 65535
+-- as the code has it
+abbrev pub found : Option ℕ → Found ℕ
+found none = None
+found (some b) = Some b
 
--- what a number says of a letter
-abbrev pub Notes : Option ℕ → ℕ → Type 0
-Notes none c = c ≡ no_letter
-Notes (some b) c = (c ≡ b) × (b < 256)
-
--- a table with the letter of each label
-abbrev pub NotesAll : (ℕ → Option ℕ) → List ℕ → Type 0
-NotesAll letter table = (l : ℕ) → l < most_listed → Notes (letter l) (get_or table l 0)
-
--- each cell is a letter or none
-abbrev pub AreNoted : List ℕ → Type 0
-AreNoted table = (l : ℕ) → l < most_listed → (get_or table l 0 ≡ no_letter → ⊥) → get_or table l 0 < 256
+-- a table with the letter of each label, where it has one
+abbrev pub NotesAll : (ℕ → Option ℕ) → List (Found ℕ) → Type 0
+NotesAll letter table = (l : ℕ) → l < most_listed → get_or table l None ≡ found (letter l)
 
 -- the letters that a table has for labels: whether all have one, and then the list
-abbrev pub is_noted : List ℕ → ℕ → Bool
-is_noted table l = not (eqb (get_or table l 0) no_letter)
+abbrev pub is_noted : List (Found ℕ) → ℕ → Bool
+is_noted table l = is_some (get_or table l None)
 
-pub record Written (labels table entry exit : List ℕ) (whole : Bool) : Type 0 where
+abbrev pub noted_letter : List (Found ℕ) → ℕ → ℕ
+noted_letter table l = unwrap_or (get_or table l None) 0
+
+pub record Written (labels : List ℕ) (table : List (Found ℕ)) (entry exit : List ℕ) (whole : Bool) : Type 0 where
   pub judged : whole ≡ all (is_noted table) labels
-  pub written : whole ≡ true → exit ≡ map (λ l. get_or table l 0) labels ++ drop (length labels) entry
+  pub written : whole ≡ true → exit ≡ map (noted_letter table) labels ++ drop (length labels) entry
 
 -- ---- what there is to letter
 
--- `assignable`, by the lengths of the lists
-abbrev pub assignable_by : List ℕ → ℕ → ℕ → ℕ → List ℕ → ℕ → Bool
-assignable_by labels multiplicities positions candidates rooms room =
-    let n = length labels in
-    not (too_many_listed n)
-    && not (too_many_candidates candidates)
-    && not (any (unlike n) (multiplicities ∷ positions ∷ []))
-    && not (any (unlike candidates) rooms)
-    && not (shorter_than n room)
-    && all (λ l. ltb l n) labels
-
--- what it says where it holds
+-- what `assignable` says where it holds
 pub record Assignable (x : AssignArguments) : Type 0 where
   pub listed : length x.labels ≤ most_listed
   pub few : length x.candidates ≤ most_candidates
@@ -144,6 +132,7 @@ pub record Assignable (x : AssignArguments) : Type 0 where
 -- the tables hold the spaces of the first m candidates of x
 pub record IsPrepared (x : AssignArguments) (cs : RealCandidates) : Type 0 where
   pub multiplicities : cs.multiplicities ≡ x.candidates
+  pub letters : cs.letters ≡ x.letters
   pub space : (k : ℕ) → k < length x.candidates → space_at cs k ≡ real_space (choice_at x k).space
   pub counted : (k : ℕ) → k < length x.candidates → CountedDiagonal (choice_at x k).space.snf.d
 
@@ -167,14 +156,15 @@ module _ (x : AssignArguments) (cs : RealCandidates) (h : IsPrepared x cs) where
 
   found_prepared :
       (m : ℕ) (p : Position) →
-      found_real x.basis x.symprec m p cs x.letters
+      found_real x.basis x.symprec m p cs
       ≡ mapped (λ (w : Choice). w.letter) (candidate_for x.basis x.symprec m p (sites_in x).choices)
   unfolding found_real candidate_for
   found_prepared m p =
       let n = length x.candidates in
       let t : ℕ → Bool = fits_real x.basis x.symprec m p cs in
       let s : Choice → Bool = position_fits x.basis x.symprec m p in
-      ap (λ ms. mapped (λ k. get_or x.letters k 0) (first t (up_to (length ms)))) h.multiplicities
+      ap (λ ms. mapped (λ k. get_or cs.letters k 0) (first t (up_to (length ms)))) h.multiplicities
+      ∙ ap (λ ls. mapped (λ k. get_or ls k 0) (first t (up_to n))) h.letters
       ∙ ap (mapped (λ k. get_or x.letters k 0))
       (first_same t (λ k. s (choice_at x k)) (up_to n) (λ k b. fits_prepared m p k (from_up_to n k b)))
       ∙ sym (mapped_twice (first (λ k. s (choice_at x k)) (up_to n)))
@@ -188,7 +178,6 @@ module _ (x : AssignArguments) (cs : RealCandidates) (h : IsPrepared x cs) where
         basis = x.basis;
         symprec = x.symprec;
         candidates = cs;
-        letters = x.letters;
       }
 
   found_at_lem : (j : ℕ) → j < length x.positions → found_by real_sites j ≡ found_at (sites_in x) j

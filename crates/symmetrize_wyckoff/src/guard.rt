@@ -1,71 +1,53 @@
 // What there is to letter: lists that belong together, and labels that are listed sites.
-ghost use Rattle.std.specs.Prelude.{◌≡◌, not, [], ◌∷◌, ltb, length};
+ghost use Rattle.std.specs.Prelude.{◌≡◌, ltb, length};
 ghost use Rattle.definitions.specs.Lent.{unlike};
-ghost use Rattle.definitions.specs.Lists.{all, any};
-ghost use Rattle.symmetrize_wyckoff.specs.Prepared.{assignable_by};
+ghost use Rattle.std.specs.List.{list_all, list_any};
+ghost use Rattle.definitions.specs.SiteCalls.{assignable};
+ghost use Rattle.symmetrize_wyckoff.specs.Given.{placed_of};
+ghost use Rattle.symmetrize_wyckoff.specs.Lettering.{assign_with};
 
-use crate::walk::number;
+use crate::arguments::Placed;
 use definitions::limits::{MOST_CANDIDATES, MOST_LISTED};
 
 // Each label is a listed site.
 fn labels_listed(labels: &[u16]) -> bool
-    ensures { result ≡ all (λ l. ltb l (length labels.now)) labels.now }
+    ensures { result ≡ list_all (λ l. ltb l (length labels.now)) labels.now }
 {
-    let mut j: usize = 0;
-    while j < labels.len() {
-        if labels.len() <= number(labels[j]) {
-            return false;
-        }
-        j += 1;
-    }
-    true
+    let n = labels.len();
+    labels.iter().all(|label| usize::from(*label) < n)
 }
 
-// One letter and one space a candidate.
-fn one_each(
-    n: usize,
-    letters: usize,
-    matrices: usize,
-    shifts: usize,
-    ds: usize,
-    ls: usize,
-    rs: usize,
-) -> bool
-    ensures { result ≡ not (any (unlike n) (letters ∷ matrices ∷ shifts ∷ ds ∷ ls ∷ rs ∷ [])) }
+// One of the lists has not n entries.
+fn unlike_lists(n: usize, lengths: &[usize]) -> bool
+    ensures { result ≡ list_any (unlike n) lengths.now }
 {
-    let a = n == letters;
-    let b = n == matrices;
-    let c = n == shifts;
-    let d = n == ds;
-    let e = n == ls;
-    let f = n == rs;
-    a & b & c & d & e & f
+    lengths.iter().any(|length| n != *length)
 }
 
 pub(crate) fn assignable(
     labels: &[u16],
-    multiplicities: usize,
-    positions: usize,
-    candidates: usize,
-    letters: usize,
-    matrices: usize,
-    shifts: usize,
-    ds: usize,
-    ls: usize,
-    rs: usize,
+    multiplicities: &[u16],
+    placed: &Placed,
     room: usize,
 ) -> bool
-    ensures { result
-        ≡ assignable_by labels.now multiplicities positions candidates
-        (letters ∷ matrices ∷ shifts ∷ ds ∷ ls ∷ rs ∷ []) room }
+    ensures { result ≡ assignable (assign_with (placed_of placed.now) labels.now multiplicities.now) room }
 {
     let n = labels.len();
+    let candidates = placed.candidates.len();
+    let sites = [multiplicities.len(), placed.positions.len()];
+    let prepared = [
+        placed.letters.len(),
+        placed.matrices.len(),
+        placed.shifts.len(),
+        placed.ds.len(),
+        placed.ls.len(),
+        placed.rs.len(),
+    ];
     let listed = n <= MOST_LISTED;
     let few = candidates <= MOST_CANDIDATES;
-    let counted = n == multiplicities;
-    let placed = n == positions;
-    let prepared = one_each(candidates, letters, matrices, shifts, ds, ls, rs);
+    let uneven = unlike_lists(n, &sites);
+    let unprepared = unlike_lists(candidates, &prepared);
     let fitting = n <= room;
     let known = labels_listed(labels);
-    listed & few & (counted & placed) & prepared & fitting & known
+    listed & few & !uneven & !unprepared & fitting & known
 }

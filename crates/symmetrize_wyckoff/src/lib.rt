@@ -1,6 +1,7 @@
 // moyo's symmetrize/wyckoff.rs above its match: the letters of orbits.
 #![tactic(auto)]
 
+mod arguments;
 mod find;
 mod guard;
 mod lettering;
@@ -13,86 +14,40 @@ ghost use Rattle.std.specs.Prelude.{◌≡◌};
 ghost use Rattle.definitions.specs.Wyckoff.{letter_of};
 ghost use Rattle.definitions.specs.SiteCalls.{sites_in, Assigned, LetterPromise};
 ghost use Rattle.symmetrize_wyckoff.specs.Prepared.{Assignable, NotesAll};
-ghost use Rattle.symmetrize_wyckoff.specs.Lettering.{LetterJudged};
+ghost use Rattle.symmetrize_wyckoff.specs.Given.{letter_arguments_of, placed_of};
+ghost use Rattle.symmetrize_wyckoff.specs.Lettering.{LetterJudged, assign_with};
 
+use crate::arguments::{Lettering, Placed};
+use crate::find::Candidates;
 use crate::guard::assignable;
-use crate::lettering::letter_prepared;
-use crate::verdicts::given_verdict;
+use crate::prepare::{NO_SPACE, put_spaces};
 use crate::walk::{Letters, note_letters};
 use crate::write::put_letters;
+use base_cell::verdicts::Labelling;
 use definitions::limits::MOST_CANDIDATES;
 use definitions::{Basis, Cells, Rotation, SnfMatrix, Text, Verdict};
-use lent::{clear_u8, clear_u16};
+use lent::clear;
 
-// The letter of each label, the candidates' matrices worked out first.
-fn letter_table(
-    labels: &[u16],
-    multiplicities: &[u16],
-    positions: &[Cells],
-    basis: Basis,
-    symprec: f64,
-    candidates: &[u16],
-    candidate_letters: &[u8],
-    matrices: &[Rotation],
-    shifts: &[Cells],
-    ds: &[SnfMatrix],
-    ls: &[SnfMatrix],
-    rs: &[SnfMatrix],
-) -> Letters
-    requires { Assignable
-        (record {
-          labels = labels.now;
-          multiplicities = multiplicities.now;
-          positions = positions.now;
-          basis = basis;
-          symprec = symprec;
-          candidates = candidates.now;
-          letters = candidate_letters.now;
-          spaces = record { matrices = matrices.now; shifts = shifts.now; ds = ds.now; ls = ls.now; rs = rs.now };
-        }) }
+// The letter of each label, the candidates' spaces worked out first.
+fn letter_table(labels: &[u16], multiplicities: &[u16], placed: &Placed) -> Letters
+    requires { Assignable (assign_with (placed_of placed.now) labels.now multiplicities.now) }
     ensures { NotesAll
-        (letter_of
-        (sites_in
-        (record {
-          labels = labels.now;
-          multiplicities = multiplicities.now;
-          positions = positions.now;
-          basis = basis;
-          symprec = symprec;
-          candidates = candidates.now;
-          letters = candidate_letters.now;
-          spaces =
-              record {
-                matrices = matrices.now;
-                shifts = shifts.now;
-                ds = ds.now;
-                ls = ls.now;
-                rs = rs.now;
-              };
-        })))
-        result }
+        (letter_of (sites_in (assign_with (placed_of placed.now) labels.now multiplicities.now))) result }
 {
-    let mut reals = [[[0.0; 3]; 3]; MOST_CANDIDATES];
-    let mut diagonals = [[0.0; 3]; MOST_CANDIDATES];
-    let mut lefts = [[[0.0; 3]; 3]; MOST_CANDIDATES];
-    let mut rights = [[[0.0; 3]; 3]; MOST_CANDIDATES];
-    prepare::put_real(matrices, &mut reals);
-    prepare::put_diagonals(ds, &mut diagonals);
-    prepare::put_real16(ls, &mut lefts);
-    prepare::put_real16(rs, &mut rights);
+    let mut spaces = [NO_SPACE; MOST_CANDIDATES];
+    put_spaces(placed, &mut spaces);
+    let prepared = Candidates {
+        multiplicities: placed.candidates,
+        letters: placed.letters,
+        spaces: &spaces,
+    };
     note_letters(
         labels,
         multiplicities,
-        positions,
-        basis,
-        symprec,
-        candidates,
-        candidate_letters,
-        &reals,
-        shifts,
-        &diagonals,
-        &lefts,
-        &rights,
+        placed.positions,
+        placed.basis,
+        placed.symprec,
+        &prepared,
     )
 }
 
@@ -132,74 +87,42 @@ pub fn assign_wyckoffs_by_orbit(
         })
         letters.old letters.new result }
 {
-    let given = assignable(
-        labels,
-        multiplicities.len(),
-        positions.len(),
-        candidates.len(),
-        candidate_letters.len(),
-        matrices.len(),
-        shifts.len(),
-        ds.len(),
-        ls.len(),
-        rs.len(),
-        letters.len(),
-    );
-    // The tables of a walk over no sites would be made for nothing.
-    let empty = labels.len() == 0;
-    if !given | empty {
-        clear_u8(letters, 0);
-        return given;
-    }
-    let table = letter_table(
-        labels,
-        multiplicities,
+    let placed = Placed {
         positions,
         basis,
         symprec,
         candidates,
-        candidate_letters,
+        letters: candidate_letters,
         matrices,
         shifts,
         ds,
         ls,
         rs,
-    );
+    };
+    let given = assignable(labels, multiplicities, &placed, letters.len());
+    // The tables of a walk over no sites would be made for nothing.
+    let empty = labels.len() == 0;
+    if !given | empty {
+        clear(letters, 0);
+        return given;
+    }
+    let table = letter_table(labels, multiplicities, &placed);
     if put_letters(labels, &table, letters) {
-        clear_u8(letters, labels.len());
+        clear(letters, labels.len());
         return true;
     }
-    clear_u8(letters, 0);
+    clear(letters, 0);
     false
 }
 
 // The verdict, with the answer in the lent lists where it accepts.
 fn judge(
-    sites: usize,
-    count: usize,
-    images: &[u8],
-    mapping: &[u16],
-    positions: &[Cells],
-    basis: Basis,
-    candidates: &[u16],
-    candidate_letters: &[u8],
-    texts: &[Text],
-    symprec: f64,
+    given: &Lettering,
     labels: &mut [u16],
     multiplicities: &mut [u16],
     letters: &mut [u8],
 ) -> Verdict
-    ensures { LetterJudged
-        (record {
-          labelling =
-              record { sites = sites; count = count; images = images.now; mapping = mapping.now };
-          positions = positions.now;
-          basis = basis;
-          multiplicities = candidates.now;
-          letters = candidate_letters.now;
-          texts = texts.now;
-          symprec = symprec;
-        })
+    ensures { LetterJudged (letter_arguments_of given.now)
         (record {
           labels = labels.old;
           multiplicities = multiplicities.old;
@@ -211,34 +134,8 @@ fn judge(
           letters = letters.new;
         }) result }
 {
-    let verdict = given_verdict(
-        sites,
-        count,
-        images,
-        mapping,
-        positions,
-        basis,
-        candidates,
-        candidate_letters,
-        texts,
-        symprec,
-    );
-    match verdict {
-        Verdict::Accepted => letter_prepared(
-            sites,
-            count,
-            images,
-            mapping,
-            positions,
-            basis,
-            candidates,
-            candidate_letters,
-            texts,
-            symprec,
-            labels,
-            multiplicities,
-            letters,
-        ),
+    match given.given_verdict() {
+        Verdict::Accepted => given.letter_prepared(labels, multiplicities, letters),
         Verdict::Refused(k) => Verdict::Refused(k),
     }
 }
@@ -281,27 +178,28 @@ pub fn letter_sites(
           letters = letters.new;
         }) result }
 {
-    let v = judge(
+    let labelling = Labelling {
         sites,
         count,
         images,
         mapping,
+    };
+    let given = Lettering {
+        labelling,
         positions,
         basis,
-        candidates,
-        candidate_letters,
+        multiplicities: candidates,
+        letters: candidate_letters,
         texts,
         symprec,
-        labels,
-        multiplicities,
-        letters,
-    );
+    };
+    let v = judge(&given, labels, multiplicities, letters);
     match v {
         Verdict::Accepted => {}
         Verdict::Refused(_) => {
-            clear_u16(labels, 0);
-            clear_u16(multiplicities, 0);
-            clear_u8(letters, 0);
+            clear(labels, 0);
+            clear(multiplicities, 0);
+            clear(letters, 0);
         }
     }
     v

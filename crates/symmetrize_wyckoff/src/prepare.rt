@@ -1,68 +1,51 @@
-// The candidates' matrices as floats, worked out once a candidate: moyo works them out anew in each match.
+// The candidates' spaces as floats, worked out once a candidate: moyo works them out anew in each match.
 ghost use Rattle.std.specs.Prelude.{◌≤◌, ◌≡◌, length};
 ghost use Rattle.definitions.specs.Limits.{most_candidates};
-ghost use Rattle.definitions.specs.Real.{real_of, real};
-ghost use Rattle.definitions.specs.Lent.{cells_of};
-ghost use Rattle.symmetrize_match.specs.Match.{Counted, CountedDiagonal, diagonal_of};
-ghost use Rattle.symmetrize_wyckoff.specs.Prepared.{PutAs, CountedAll};
+ghost use Rattle.symmetrize_wyckoff.specs.Given.{spaces_of};
+ghost use Rattle.symmetrize_wyckoff.specs.Prepared.{PutSpaces};
 
+use crate::arguments::Placed;
+use definitions::Position;
 use definitions::limits::MOST_CANDIDATES;
-use definitions::{Basis, Cells, Rotation, SnfMatrix};
-use math_real::whole;
+use symmetrize_match::{RealSpace, real_space};
 
-// One entry a candidate.
-pub(crate) type Bases = [Basis; MOST_CANDIDATES];
+// One a candidate.
+pub(crate) type Prepared = [RealSpace; MOST_CANDIDATES];
 
-pub(crate) type Diagonals = [Cells; MOST_CANDIDATES];
+// What the table holds behind the candidates.
+pub(crate) const NO_SPACE: RealSpace = RealSpace {
+    matrix: [[0.0; 3]; 3],
+    shift: Position {
+        x: 0.0,
+        y: 0.0,
+        z: 0.0,
+    },
+    diagonal: Position {
+        x: 0.0,
+        y: 0.0,
+        z: 0.0,
+    },
+    left: [[0.0; 3]; 3],
+    right: [[0.0; 3]; 3],
+};
 
-// M of each.
-pub(crate) fn put_real(ms: &[Rotation], out: &mut Bases)
-    requires { (length ms.now ≤ most_candidates) × (length out.old ≡ most_candidates) }
-    ensures { PutAs real ms.now out.new }
+// The table is the caller's: one that is returned is copied twice.
+pub(crate) fn put_spaces(given: &Placed, out: &mut Prepared)
+    requires { (length given.now.matrices.now ≤ most_candidates)
+        × (length given.now.shifts.now ≡ length given.now.matrices.now)
+        × (length given.now.ds.now ≡ length given.now.matrices.now)
+        × (length given.now.ls.now ≡ length given.now.matrices.now)
+        × (length given.now.rs.now ≡ length given.now.matrices.now) }
+    ensures size { length out.new ≡ most_candidates }
+    ensures spaces { PutSpaces (spaces_of given.now) (length given.now.matrices.now) out.new }
 {
-    let mut k: usize = 0;
-    while k < ms.len() {
-        out[k] = whole::real(ms[k]);
-        k += 1;
-    }
-}
-
-// L or R of each.
-pub(crate) fn put_real16(ms: &[SnfMatrix], out: &mut Bases)
-    requires { (length ms.now ≤ most_candidates) × (length out.old ≡ most_candidates) }
-    ensures { PutAs real ms.now out.new }
-{
-    let mut k: usize = 0;
-    while k < ms.len() {
-        out[k] = whole::real16(ms[k]);
-        k += 1;
-    }
-}
-
-fn real_entry(x: i16) -> f64
-    ensures { (result ≡ real_of x) × Counted x }
-{
-    x as f64
-}
-
-fn diagonal_of(d: SnfMatrix) -> Cells
-    ensures { (result ≡ cells_of (diagonal_of d)) × CountedDiagonal d }
-{
-    [
-        real_entry(d[0][0]),
-        real_entry(d[1][1]),
-        real_entry(d[2][2]),
-    ]
-}
-
-// D's diagonal of each.
-pub(crate) fn put_diagonals(ds: &[SnfMatrix], out: &mut Diagonals)
-    requires { (length ds.now ≤ most_candidates) × (length out.old ≡ most_candidates) }
-    ensures { PutAs (λ d. cells_of (diagonal_of d)) ds.now out.new × CountedAll ds.now }
-{
-    let mut k: usize = 0;
-    while k < ds.len() {
-        out[k] = diagonal_of(ds[k]);
-        k += 1;
+    for k in 0..given.matrices.len() {
+        out[k] = real_space(
+            given.matrices[k],
+            given.shifts[k],
+            given.ds[k],
+            given.ls[k],
+            given.rs[k],
+        );
     }
 }

@@ -3,10 +3,8 @@ use mathlib.Core.Path.{◌≡◌, sym, ◌∙◌}
 use mathlib.Core.Bool.{true, not}
 use lib.ListN.{length}
 use borrow.Author.Tests.{not-false}
-use Rattle.definitions.specs.Wyckoff.{letter_of}
-use Rattle.definitions.specs.SiteCalls.{AssignArguments, sites_in, assignable}
+use Rattle.definitions.specs.SiteCalls.{AssignArguments, assignable}
 use Rattle.laws.specs.Tests.{neither_left}
-use Rattle.symmetrize_wyckoff.proofs.Tables.{are_noted}
 use Rattle.symmetrize_wyckoff.proofs.Given.{facts, fits_room}
 use Rattle.symmetrize_wyckoff.proofs.Assigned.{labels_below, none_given, one_without, all_with}
 use Rattle.symmetrize_wyckoff.proofs.assign_wyckoffs_by_orbit.Goals as goal
@@ -43,20 +41,18 @@ ready c =
 pub returns-then-given-empty : goal.returns-then-given-empty
 returns-then-given-empty c =
     let a = c.assignable-given in
-    none_given (given (goal.at.returns-then-given-empty c).Start) c.args.letters.now c.clear_u8.new.out
-    a.result a.ensures c.if-given-empty.true c.clear_u8.ensures
+    none_given (given (goal.at.returns-then-given-empty c).Start) c.args.letters.now c.clear.new.out
+    a.result a.ensures c.if-given-empty.true c.clear.ensures
 
 pub letter_table-table-requires : goal.letter_table-table-requires
 letter_table-table-requires c =
     facts (given (goal.at.letter_table-table-requires c).Start)
-    (length c.args.letters.now) (ready c)
+    (length c.args.letters.now) (ready (goal.at.letter_table-table-requires c).Else-given-empty)
 
 pub put_letters-requires : goal.put_letters-requires
 put_letters-requires c =
-    let t = c.letter_table-table in
     let room = length c.args.letters.now in (
       labels_below (given (goal.at.put_letters-requires c).Start) (facts (given (goal.at.put_letters-requires c).Start) room (ready (goal.at.put_letters-requires c).Else-given-empty)),
-      are_noted (letter_of (sites_in (given (goal.at.put_letters-requires c).Start))) t.result t.ensures,
       fits_room (given (goal.at.put_letters-requires c).Start) room (ready (goal.at.put_letters-requires c).Else-given-empty),
     )
 
@@ -66,7 +62,7 @@ returns-then-put_letters c =
     let yes = ready (goal.at.returns-then-put_letters c).Else-given-empty in
     let t = c.letter_table-table in
     let p = c.put_letters in
-    let z = c.clear_u8-then-put_letters in
+    let z = c.clear-then-put_letters in
     all_with (given (goal.at.returns-then-put_letters c).Start) entry z.new.out (facts (given (goal.at.returns-then-put_letters c).Start) (length entry) yes) yes t.result t.ensures
     p.new.letters p.result
     c.if-put_letters.true p.ensures (fits_room (given (goal.at.returns-then-put_letters c).Start) (length entry) yes) z.ensures
@@ -77,7 +73,7 @@ returns c =
     let yes = ready (goal.at.returns c).Else-given-empty in
     let t = c.letter_table-table in
     let p = c.put_letters in
-    let z = c.clear_u8-2 in
+    let z = c.clear-2 in
     one_without (given (goal.at.returns c).Start) entry z.new.out (facts (given (goal.at.returns c).Start) (length entry) yes) yes t.result t.ensures
     p.new.letters p.result
     c.if-put_letters.false p.ensures p.auto.letters z.ensures

@@ -49,9 +49,9 @@ returns-in-Accepted c =
 pub returns-in-Refused : goal.returns-in-Refused
 returns-in-Refused c =
     let v = c.judge-v in
-    let l = c.clear_u16 in
-    let m = c.clear_u16-in-Refused in
-    let n = c.clear_u8 in
+    let l = c.clear in
+    let m = c.clear-in-Refused in
+    let n = c.clear-in-Refused-2 in
     keep_refused (given (goal.at.returns-in-Refused c).Start) (lent (goal.at.returns-in-Refused c).Start) v.result
     (record {
       labels = v.new.labels;

@@ -6,7 +6,7 @@ use Rattle.symmetrize_standardize.proofs.orbits.count_orbits.Goals as goal
 use Rattle.symmetrize_standardize.proofs.orbits.count_orbits.Goals.{After-own_label-count}
 
 pub loop-j-init : goal.loop-j-init
-loop-j-init c = (omega arith, omega arith, none_before c.args.labels.now)
+loop-j-init c = (omega arith, none_before c.args.labels.now)
 
 few : (c : After-own_label-count) → c.own_label-count.result ≤ 1
 few c =
@@ -21,9 +21,9 @@ pub loop-j-preserved : goal.loop-j-preserved
 loop-j-preserved c =
     let l = c.loop-j in
     let labels = c.args.labels.now in
-    (omega arith, omega (arith, few c), counted-more labels l.j l.count c.own_label-count.result l.invariant.2 c.own_label-count.ensures)
+    (omega (arith, few c), counted-more labels l.j l.count c.own_label-count.result l.invariant.1 c.own_label-count.ensures)
 
 pub returns : goal.returns
 returns c =
     let l = c.loop-j in
-    all-counted c.args.labels.now l.j l.count l.invariant.2 (omega arith)
+    all-counted c.args.labels.now l.j l.count l.invariant.1 (omega arith)

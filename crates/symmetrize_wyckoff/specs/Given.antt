@@ -1,0 +1,37 @@
+-- What the letter call, its step and its walk are given, as the definitions speak of it.
+use Rattle.definitions.specs.SiteCalls.{LetterArguments, SpaceCells}
+use Rattle.base_cell.specs.Given.{arguments_of}
+use Rattle.symmetrize_wyckoff.specs.declared.find.Candidates.{Candidates}
+use Rattle.symmetrize_wyckoff.specs.declared.arguments.Lettering.{Lettering}
+use Rattle.symmetrize_wyckoff.specs.declared.arguments.Placed.{Placed}
+use Rattle.symmetrize_wyckoff.specs.Lettering.{Placed as PlacedCells}
+use Rattle.symmetrize_wyckoff.specs.Prepared.{RealCandidates}
+
+abbrev pub candidates_of : Candidates → RealCandidates
+candidates_of x = record { multiplicities = x.multiplicities.now; letters = x.letters.now; spaces = x.spaces.now }
+
+abbrev pub spaces_of : Placed → SpaceCells
+spaces_of x = record { matrices = x.matrices.now; shifts = x.shifts.now; ds = x.ds.now; ls = x.ls.now; rs = x.rs.now }
+
+abbrev pub placed_of : Placed → PlacedCells
+placed_of x =
+    record {
+      positions = x.positions.now;
+      basis = x.basis;
+      symprec = x.symprec;
+      candidates = x.candidates.now;
+      letters = x.letters.now;
+      spaces = spaces_of x;
+    }
+
+abbrev pub letter_arguments_of : Lettering → LetterArguments
+letter_arguments_of x =
+    record {
+      labelling = arguments_of x.labelling;
+      positions = x.positions.now;
+      basis = x.basis;
+      multiplicities = x.multiplicities.now;
+      letters = x.letters.now;
+      texts = x.texts.now;
+      symprec = x.symprec;
+    }
