@@ -1,7 +1,7 @@
 -- Lists of what stands at places a fixed width apart.
 use Prim.Native.Nat.{ℕ, zero, suc, ◌+◌, ◌*◌, ◌<◌}
 use mathlib.Core.Path.{◌≡◌, refl, ap, ◌∙◌}
-use mathlib.Core.List.{List, ◌∷◌, map}
+use mathlib.Core.List.{List, ◌∷◌}
 use native.Mathlib.Omega.{arith}
 use native.Mathlib.Nat.{not-suc-le-zero, le_of_suc-le-suc}
 use lib.ListN.{get_or}
@@ -13,12 +13,6 @@ module _ {A : Type 0} (f : ℕ → A) (w : ℕ) where
   items_at at zero i d h = absurd (not-suc-le-zero h)
   items_at at (suc n) zero d h = ap f (omega arith)
   items_at at (suc n) (suc i) d h = items_at (at + w) n i d (le_of_suc-le-suc h) ∙ ap f (omega arith)
-
-  -- what is made of each
-  pub map_items : {B : Type 0} (g : A → B) (at n : ℕ) → map g (items f w at n) ≡ items (λ p. g (f p)) w at n
-  unfolding items
-  map_items {B} g at zero = refl
-  map_items {B} g at (suc n) = ap (λ (l : List B). g (f at) ∷ l) (map_items g (at + w) n)
 
 -- the same places, counted from another one
 pub items_from : {A : Type 0} (f : ℕ → A) (w at o n : ℕ) → items (λ p. f (p + o)) w at n ≡ items f w (at + o) n

@@ -7,6 +7,5 @@ pub mod Words
 pub mod Decisions
 pub mod CountedRun
 pub mod Jobs
-pub mod Putting
 pub mod Rooms
 pub mod Promise

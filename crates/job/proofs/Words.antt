@@ -1,16 +1,18 @@
 -- Operands byte by byte are those that stand at their places.
-use Prim.Native.Nat.{ℕ, ◌+◌, ◌*◌, ◌<◌}
+use Prim.Native.Nat.{ℕ, zero, suc, ◌+◌, ◌*◌, ◌≤◌, ◌<◌}
 use mathlib.Core.Path.{◌≡◌, refl, sym, ap, ◌∙◌}
 use mathlib.Core.List.{List, [], ◌∷◌}
 use native.Mathlib.Omega.{arith}
-use lib.ListN.{get_or}
+use native.Mathlib.Numerals.{add-one}
+use lib.ListN.{length, get_or, take, drop}
+use lib.Seq.{drop-cons}
 use lib.IntN.{pos}
 use lib.Dec.{lit<}
 use Rattle.definitions.specs.Job.{float, position_of}
 use Rattle.definitions.specs.Lent.{cells_of}
 use Rattle.laws.specs.Lists.{three-cons}
 use Rattle.job_laws.specs.Reader.{from_complement}
-use Rattle.job.specs.Places.{word_at, integer_at, floats_at, entries_at, lattice_at}
+use Rattle.job.specs.Places.{items, word_at, integer_at, floats_at, entries_at, lattice_at}
 use Rattle.job.specs.Words.{word2, word4, word8, signed_at, float_at}
 use Rattle.job.proofs.Items.{items_at}
 
@@ -51,6 +53,16 @@ module _ (bs : List ℕ) (at : ℕ) where
 
   pub signed_is : signed_at bs at ≡ integer_at 1 bs at
   signed_is = ap (from_complement 1) word1_is
+
+-- a text byte by byte
+pub text_is :
+    (bs : List ℕ) (at n : ℕ) → at + n ≤ length bs → take n (drop at bs) ≡ items (word_at 1 bs) 1 at n
+unfolding items
+text_is bs at zero h = refl
+text_is bs at (suc n) h =
+    let here : drop at bs ≡ get_or bs at 0 ∷ drop (at + 1) bs =
+    drop-cons bs at 0 (omega arith) ∙ ap (λ (k : ℕ). get_or bs at 0 ∷ drop k bs) (sym (add-one at)) in
+    ap (take (suc n)) here ∙ (λ i. word1_is bs at i ∷ text_is bs (at + 1) n (omega arith) i)
 
 -- ---- floats and entries by their numbers
 

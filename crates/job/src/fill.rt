@@ -8,7 +8,7 @@ ghost use Rattle.job.specs.Places.{symprec_from};
 ghost use Rattle.job.specs.Given.{lent, rooms, Enough, given_at};
 ghost use Rattle.job.specs.Words.{float_at};
 
-use crate::lists::{put_bytes, put_cells, put_elements, put_matrices, put_numbers, put_texts};
+use crate::lists::put_items;
 use crate::operands::{cells_at, float_at, lattice_of, matrix_at};
 use definitions::{Basis, Cells, JobCounts, Linear, Rotation, Text};
 
@@ -39,8 +39,8 @@ fn fill_sites(bytes: &[u8], n: usize, elements: &mut [i32], positions: &mut [Cel
         × Holds zero_cells positions.old positions.new
         (items (cells_from bytes.now) 29 122 n) }
 {
-    put_elements(bytes, 118, 29, n, elements);
-    put_cells(bytes, 122, 29, n, positions);
+    put_items(bytes, 118, 29, n, elements);
+    put_items(bytes, 122, 29, n, positions);
 }
 
 // O or G
@@ -58,8 +58,8 @@ fn fill_operations(
         × Holds zero_cells translations.old translations.new
         (items (cells_from bytes.now) 34 (at + 10) n) }
 {
-    put_matrices(bytes, at + 1, 34, n, rotations);
-    put_cells(bytes, at + 10, 34, n, translations);
+    put_items(bytes, at + 1, 34, n, rotations);
+    put_items(bytes, at + 10, 34, n, translations);
 }
 
 // P
@@ -67,7 +67,7 @@ fn fill_images(bytes: &[u8], at: usize, n: usize, images: &mut [u8])
     requires { (at + n * 2 + 10 ≤ length bytes.now) × (n ≤ length images.old) }
     ensures { Holds 0 images.old images.new (items (word_at 1 bytes.now) 2 (at + 1) n) }
 {
-    put_bytes(bytes, at + 1, 2, n, images);
+    put_items(bytes, at + 1, 2, n, images);
 }
 
 // R
@@ -76,7 +76,7 @@ fn fill_conventional(bytes: &[u8], at: usize, n: usize, conventional: &mut [Rota
     ensures { Holds zero_matrix conventional.old conventional.new
         (items (matrix_from bytes.now) 10 (at + 1) n) }
 {
-    put_matrices(bytes, at + 1, 10, n, conventional);
+    put_items(bytes, at + 1, 10, n, conventional);
 }
 
 // W
@@ -97,9 +97,9 @@ fn fill_candidates(
         × Holds zero_text texts.old texts.new
         (items (text_at bytes.now) 68 (at + 4) n) }
 {
-    put_numbers(bytes, at + 1, 68, n, candidates);
-    put_bytes(bytes, at + 3, 68, n, candidate_letters);
-    put_texts(bytes, at + 4, 68, n, texts);
+    put_items(bytes, at + 1, 68, n, candidates);
+    put_items(bytes, at + 3, 68, n, candidate_letters);
+    put_items(bytes, at + 4, 68, n, texts);
 }
 
 // N

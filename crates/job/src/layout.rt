@@ -13,16 +13,13 @@ fn count_run(bytes: &[u8], at: usize, command: u8, width: usize) -> usize
     requires { (at ≤ length bytes.now) × (1 ≤ width) }
     ensures { Run command width bytes.now at result }
 {
-    let mut end = at;
-    let mut n: usize = 0;
-    while width <= bytes.len() - end {
-        if bytes[end] != command {
+    let whole = (bytes.len() - at) / width;
+    for n in 0..whole {
+        if bytes[at + n * width] != command {
             return n;
         }
-        end += width;
-        n += 1;
     }
-    n
+    whole
 }
 
 // The six runs behind L, T and C.

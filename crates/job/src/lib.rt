@@ -12,7 +12,7 @@ ghost use Rattle.job.specs.Given.{lent, rooms, shorter_two, shorter_three, Settl
 ghost use Rattle.job.specs.Given as Given;
 
 use definitions::{Basis, Cells, JobCounts, JobRead, Linear, Rotation, Text, refusal};
-use lent::{clear_cells, clear_i32, clear_rotations, clear_texts, clear_u8, clear_u16};
+use lent::clear;
 
 // ---- room
 
@@ -189,17 +189,17 @@ fn refuse(
     *shift = [0.0; 3];
     *c = [[0; 3]; 3];
     *symprec = 0.0;
-    clear_i32(elements, 0);
-    clear_cells(positions, 0);
-    clear_rotations(rotations, 0);
-    clear_cells(translations, 0);
-    clear_u8(images, 0);
-    clear_rotations(target_rotations, 0);
-    clear_cells(target_translations, 0);
-    clear_rotations(conventional, 0);
-    clear_u16(candidates, 0);
-    clear_u8(candidate_letters, 0);
-    clear_texts(texts, 0);
+    clear(elements, 0);
+    clear(positions, 0);
+    clear(rotations, 0);
+    clear(translations, 0);
+    clear(images, 0);
+    clear(target_rotations, 0);
+    clear(target_translations, 0);
+    clear(conventional, 0);
+    clear(candidates, 0);
+    clear(candidate_letters, 0);
+    clear(texts, 0);
 }
 
 // The job of the bytes, in lent values: refused with 1 if they are no job, with 10 if a list is too short for it.

@@ -1,101 +1,105 @@
 // A job's lists: n operands, one from each of the commands that stand `width` bytes apart, to the front of a lent list,
 // and zero behind.
-ghost use Rattle.std.specs.Prelude.{◌+◌, ◌*◌, ◌≤◌, ◌≡◌, length, pos};
+ghost use Rattle.std.specs.Prelude.{ℕ, List, ◌+◌, ◌*◌, ◌≤◌, ◌≡◌, length};
 ghost use Rattle.definitions.specs.Refusal.{padded};
-ghost use Rattle.definitions.specs.Lent.{zero_cells, zero_matrix};
-ghost use Rattle.definitions.specs.WholeCalls.{zero_text};
 ghost use Rattle.job.specs.Places.{items, word_at, integer_at, text_at, cells_from, matrix_from};
 
 use crate::operands::{cells_at, element_at, matrix_at, number_at, text_at};
 use definitions::{Cells, Rotation, Text};
-use lent::{clear_cells, clear_i32, clear_rotations, clear_texts, clear_u8, clear_u16};
+use lent::{Zero, clear};
 
-pub(crate) fn put_elements(bytes: &[u8], at: usize, width: usize, n: usize, out: &mut [i32])
-    requires { (at + n * width ≤ length bytes.now) × (4 ≤ width) × (n ≤ length out.old) }
-    ensures { out.new ≡
-        padded (pos 0) (items (integer_at 4 bytes.now) width at n) (length out.old) }
-{
-    let mut place = at;
-    let mut site: usize = 0;
-    while site < n {
-        out[site] = element_at(bytes, place);
-        place += width;
-        site += 1;
-    }
-    clear_i32(out, n);
+// What a lent list holds of a command: so many bytes of it, and their value.
+pub(crate) trait Operand: Zero {
+    ghost WIDTH: { ℕ };
+
+    ghost value: { List ℕ → ℕ → Self };
+
+    const WIDTH: usize;
+
+    fn read(bytes: &[u8], at: usize) -> Self
+        requires { at + WIDTH ≤ length bytes.now }
+        ensures { result ≡ value bytes.now at };
 }
 
-pub(crate) fn put_cells(bytes: &[u8], at: usize, width: usize, n: usize, out: &mut [Cells])
-    requires { (at + n * width ≤ length bytes.now) × (24 ≤ width) × (n ≤ length out.old) }
-    ensures { out.new ≡
-        padded zero_cells (items (cells_from bytes.now) width at n) (length out.old) }
-{
-    let mut place = at;
-    let mut i: usize = 0;
-    while i < n {
-        out[i] = cells_at(bytes, place);
-        place += width;
-        i += 1;
+impl Operand for i32 {
+    ghost WIDTH = { 4 };
+
+    ghost value = { integer_at 4 };
+
+    const WIDTH: usize = 4;
+
+    fn read(bytes: &[u8], at: usize) -> i32 {
+        element_at(bytes, at)
     }
-    clear_cells(out, n);
 }
 
-pub(crate) fn put_matrices(bytes: &[u8], at: usize, width: usize, n: usize, out: &mut [Rotation])
-    requires { (at + n * width ≤ length bytes.now) × (9 ≤ width) × (n ≤ length out.old) }
-    ensures { out.new ≡
-        padded zero_matrix (items (matrix_from bytes.now) width at n) (length out.old) }
-{
-    let mut place = at;
-    let mut i: usize = 0;
-    while i < n {
-        out[i] = matrix_at(bytes, place);
-        place += width;
-        i += 1;
+impl Operand for u8 {
+    ghost WIDTH = { 1 };
+
+    ghost value = { word_at 1 };
+
+    const WIDTH: usize = 1;
+
+    fn read(bytes: &[u8], at: usize) -> u8 {
+        bytes[at]
     }
-    clear_rotations(out, n);
 }
 
-pub(crate) fn put_bytes(bytes: &[u8], at: usize, width: usize, n: usize, out: &mut [u8])
-    requires { (at + n * width ≤ length bytes.now) × (1 ≤ width) × (n ≤ length out.old) }
-    ensures { out.new ≡
-        padded 0 (items (word_at 1 bytes.now) width at n) (length out.old) }
-{
-    let mut place = at;
-    let mut i: usize = 0;
-    while i < n {
-        out[i] = bytes[place];
-        place += width;
-        i += 1;
+impl Operand for u16 {
+    ghost WIDTH = { 2 };
+
+    ghost value = { word_at 2 };
+
+    const WIDTH: usize = 2;
+
+    fn read(bytes: &[u8], at: usize) -> u16 {
+        number_at(bytes, at)
     }
-    clear_u8(out, n);
 }
 
-pub(crate) fn put_numbers(bytes: &[u8], at: usize, width: usize, n: usize, out: &mut [u16])
-    requires { (at + n * width ≤ length bytes.now) × (2 ≤ width) × (n ≤ length out.old) }
-    ensures { out.new ≡
-        padded 0 (items (word_at 2 bytes.now) width at n) (length out.old) }
-{
-    let mut place = at;
-    let mut i: usize = 0;
-    while i < n {
-        out[i] = number_at(bytes, place);
-        place += width;
-        i += 1;
+impl Operand for Cells {
+    ghost WIDTH = { 24 };
+
+    ghost value = { cells_from };
+
+    const WIDTH: usize = 24;
+
+    fn read(bytes: &[u8], at: usize) -> Cells {
+        cells_at(bytes, at)
     }
-    clear_u16(out, n);
 }
 
-pub(crate) fn put_texts(bytes: &[u8], at: usize, width: usize, n: usize, out: &mut [Text])
-    requires { (at + n * width ≤ length bytes.now) × (64 ≤ width) × (n ≤ length out.old) }
-    ensures { out.new ≡
-        padded zero_text (items (text_at bytes.now) width at n) (length out.old) }
-{
-    let mut place = at;
-    let mut i: usize = 0;
-    while i < n {
-        out[i] = text_at(bytes, place);
-        place += width;
-        i += 1;
+impl Operand for Rotation {
+    ghost WIDTH = { 9 };
+
+    ghost value = { matrix_from };
+
+    const WIDTH: usize = 9;
+
+    fn read(bytes: &[u8], at: usize) -> Rotation {
+        matrix_at(bytes, at)
     }
-    clear_texts(out, n);
+}
+
+impl Operand for Text {
+    ghost WIDTH = { 64 };
+
+    ghost value = { text_at };
+
+    const WIDTH: usize = 64;
+
+    fn read(bytes: &[u8], at: usize) -> Text {
+        text_at(bytes, at)
+    }
+}
+
+pub(crate) fn put_items<T: Operand>(bytes: &[u8], at: usize, width: usize, n: usize, out: &mut [T])
+    requires { (at + n * width ≤ length bytes.now) × (T.WIDTH ≤ width) × (n ≤ length out.old) }
+    ensures { out.new ≡
+        padded T.ZERO (items (T.value bytes.now) width at n) (length out.old) }
+{
+    for i in 0..n {
+        out[i] = T::read(bytes, at + i * width);
+    }
+    clear(out, n);
 }

@@ -1,6 +1,6 @@
 // Operands at a place of the bytes, little-endian: floats by their bits, numbers of one, two and four bytes, matrices,
 // texts.
-ghost use Rattle.std.specs.Prelude.{◌+◌, ◌<◌, ◌≤◌, ◌≡◌, [], ◌∷◌, length};
+ghost use Rattle.std.specs.Prelude.{◌+◌, ◌≤◌, ◌≡◌, [], ◌∷◌, length, take, drop};
 ghost use Rattle.std.specs.Float.{binary64};
 ghost use Rattle.std.specs.Float.Ieee.{of_bits};
 ghost use Rattle.job_laws.specs.Reader.{from_complement};
@@ -9,22 +9,21 @@ ghost use Rattle.job.specs.Words.{word2, word4, word8, signed_at, float_at};
 
 use definitions::{Basis, Cells, Rotation, Text};
 
-fn wide(x: u8) -> u64
-    ensures { (result ≡ x) × (result < 256) }
+// N bytes from a place on
+fn bytes_at<const N: usize>(bytes: &[u8], at: usize) -> [u8; N]
+    requires { at + N ≤ length bytes.now }
+    ensures { result ≡ take N (drop at bytes.now) }
 {
-    x as u64
+    let mut part = [0; N];
+    part.copy_from_slice(&bytes[at..at + N]);
+    part
 }
 
-// by Horner, two bytes a step
 fn word_at(bytes: &[u8], at: usize) -> u64
     requires { at + 8 ≤ length bytes.now }
     ensures { result ≡ word8 bytes.now at }
 {
-    let a = wide(bytes[at]) + 256 * wide(bytes[at + 1]);
-    let b = wide(bytes[at + 2]) + 256 * wide(bytes[at + 3]);
-    let c = wide(bytes[at + 4]) + 256 * wide(bytes[at + 5]);
-    let d = wide(bytes[at + 6]) + 256 * wide(bytes[at + 7]);
-    a + 65536 * (b + 65536 * (c + 65536 * d))
+    u64::from_le_bytes(bytes_at(bytes, at))
 }
 
 // the value of a pattern; `from_bits` takes no NaN, so that one is made
@@ -82,20 +81,7 @@ pub(crate) fn lattice_of(bytes: &[u8]) -> Basis
 fn signed_byte(b: u8) -> i8
     ensures { result ≡ from_complement 1 b }
 {
-    let n = b as i16;
-    if b < 128 {
-        return n as i8;
-    }
-    (n - 256) as i8
-}
-
-fn row_of(a: u8, b: u8, c: u8) -> [i8; 3]
-    ensures { result ≡ from_complement 1 a ∷ from_complement 1 b ∷ from_complement 1 c ∷ [] }
-{
-    let x = signed_byte(a);
-    let y = signed_byte(b);
-    let z = signed_byte(c);
-    [x, y, z]
+    b.cast_signed()
 }
 
 fn row_at(bytes: &[u8], at: usize) -> [i8; 3]
@@ -104,7 +90,10 @@ fn row_at(bytes: &[u8], at: usize) -> [i8; 3]
         signed_at bytes.now at ∷ signed_at bytes.now (at + 1) ∷
         signed_at bytes.now (at + 2) ∷ [] }
 {
-    row_of(bytes[at], bytes[at + 1], bytes[at + 2])
+    let x = signed_byte(bytes[at]);
+    let y = signed_byte(bytes[at + 1]);
+    let z = signed_byte(bytes[at + 2]);
+    [x, y, z]
 }
 
 // row by row
@@ -118,24 +107,17 @@ pub(crate) fn matrix_at(bytes: &[u8], at: usize) -> Rotation
     [x, y, z]
 }
 
-fn signed_word(u: u64) -> i32
-    requires { u < 4294967296 }
+fn signed_word(u: u32) -> i32
     ensures { result ≡ from_complement 4 u }
 {
-    let n = u as i64;
-    if u < 2147483648 {
-        return n as i32;
-    }
-    (n - 4294967296) as i32
+    u.cast_signed()
 }
 
-fn quarter_at(bytes: &[u8], at: usize) -> u64
+fn quarter_at(bytes: &[u8], at: usize) -> u32
     requires { at + 4 ≤ length bytes.now }
-    ensures { (result ≡ word4 bytes.now at) × (result < 4294967296) }
+    ensures { result ≡ word4 bytes.now at }
 {
-    let a = wide(bytes[at]) + 256 * wide(bytes[at + 1]);
-    let b = wide(bytes[at + 2]) + 256 * wide(bytes[at + 3]);
-    a + 65536 * b
+    u32::from_le_bytes(bytes_at(bytes, at))
 }
 
 pub(crate) fn element_at(bytes: &[u8], at: usize) -> i32
@@ -147,28 +129,16 @@ pub(crate) fn element_at(bytes: &[u8], at: usize) -> i32
 
 // ---- unsigned numbers
 
-fn wide16(x: u8) -> u16
-    ensures { (result ≡ x) × (result < 256) }
-{
-    x as u16
-}
-
 pub(crate) fn number_at(bytes: &[u8], at: usize) -> u16
     requires { at + 2 ≤ length bytes.now }
     ensures { result ≡ word2 bytes.now at }
 {
-    wide16(bytes[at]) + 256 * wide16(bytes[at + 1])
+    u16::from_le_bytes(bytes_at(bytes, at))
 }
 
 pub(crate) fn text_at(bytes: &[u8], at: usize) -> Text
     requires { at + 64 ≤ length bytes.now }
     ensures { result ≡ text_at bytes.now at }
 {
-    let mut text = [0u8; 64];
-    let mut i: usize = 0;
-    while i < 64 {
-        text[i] = bytes[at + i];
-        i += 1;
-    }
-    text
+    bytes_at(bytes, at)
 }

@@ -60,13 +60,6 @@ place-append (x ∷ d) zero [] u = refl
 place-append (x ∷ d) zero (b ∷ t) u = ap suc (place-append d zero t u)
 place-append (x ∷ d) (suc at) t u = ap suc (place-append d at t u)
 
-length-put : (d : List ℕ) (at : ℕ) (t : List ℕ) → length (put d at t) ≡ length d
-unfolding put
-length-put [] at t = refl
-length-put (x ∷ d) zero [] = refl
-length-put (x ∷ d) zero (b ∷ t) = ap suc (length-put d zero t)
-length-put (x ∷ d) (suc at) t = ap suc (length-put d at t)
-
 put_front : (d text : List ℕ) → put d zero text ≡ take (length d) text ++ drop (length text) d
 unfolding put
 put_front [] [] = refl
@@ -96,9 +89,6 @@ puts_more {t} {u} {at} {m} {n} {d} {l} {k} p q =
       bytes = q.bytes ∙ rw (p.bytes, p.next) (put-append d at t u);
       next = q.next ∙ rw (p.bytes, p.next) (place-append d at t u);
     }
-
-pub puts_length : {t : List ℕ} {at n : ℕ} {d l : List ℕ} → Puts t at d l n → length l ≡ length d
-puts_length {t} {at} {n} {d} {l} p = ap length p.bytes ∙ length-put d at t
 
 -- at the front, it is as much of the text as there is room for
 pub puts_written : {t d l : List ℕ} {n : ℕ} → Puts t 0 d l n → Written t d l n

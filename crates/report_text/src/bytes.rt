@@ -1,57 +1,44 @@
-// Bytes and numbers at a place of lent bytes. Each function says the place behind what it put; where there is no room
-// left nothing is stored and the place stays.
-ghost use Rattle.std.specs.Prelude.{◌≡◌, [], ◌∷◌, ◌+◌, ◌<◌};
-ghost use Rattle.definitions.specs.Report.{decimal, decimal_in};
+// Bytes and numbers one behind the other in lent bytes: where there is no room left nothing is stored and the place
+// stays.
+ghost use Rattle.std.specs.Prelude.{◌≡◌, [], ◌∷◌};
+ghost use Rattle.definitions.specs.Report.{decimal};
 ghost use Rattle.report_text.specs.Putting.{Puts};
 
-// every number of 64 bits is below 10 ^ 20
-const MOST_DIGITS: usize = 20;
+use itoa::Buffer;
 
-pub(crate) fn put_byte(b: u8, at: usize, out: &mut [u8]) -> usize
-    ensures { Puts (b ∷ []) at out.old out.new result }
-{
-    if at < out.len() {
-        out[at] = b;
-        return at + 1;
-    }
-    at
+#[derive(Drop)]
+pub(crate) struct Writer<'a> {
+    pub(crate) out: &'a mut [u8],
+    // the place behind what is written
+    pub(crate) at: usize,
 }
 
-pub(crate) fn put_bytes(text: &[u8], at: usize, out: &mut [u8]) -> usize
-    ensures { Puts text.now at out.old out.new result }
-{
-    let mut next = at;
-    let mut i: usize = 0;
-    while i < text.len() {
-        next = put_byte(text[i], next, out);
-        i += 1;
+// Not `write!` of std: by its contract it may fail, and a report is written whatever is in it.
+impl<'a> Writer<'a> {
+    pub(crate) fn byte(&mut self, b: u8)
+        ensures same_bytes { self.new.out.ghost_name ≡ self.old.out.ghost_name }
+        ensures puts { Puts (b ∷ []) self.old.at self.old.out.now self.new.out.now self.new.at }
+    {
+        if self.at < self.out.len() {
+            self.out[self.at] = b;
+            self.at += 1;
+        }
     }
-    next
-}
 
-fn digit(n: usize) -> u8
-    requires { n < 10 }
-    ensures { result ≡ 48 + n }
-{
-    b'0' + n as u8
-}
-
-// At most this many digits: the front ones first, then the last.
-fn put_digits(most: usize, n: usize, at: usize, out: &mut [u8]) -> usize
-    ensures { Puts (decimal_in most n) at out.old out.new result }
-{
-    if most == 0 {
-        return at;
+    pub(crate) fn bytes(&mut self, text: &[u8])
+        ensures same_bytes { self.new.out.ghost_name ≡ self.old.out.ghost_name }
+        ensures puts { Puts text.now self.old.at self.old.out.now self.new.out.now self.new.at }
+    {
+        for b in text {
+            self.byte(*b);
+        }
     }
-    if n < 10 {
-        return put_byte(digit(n), at, out);
-    }
-    let last = put_digits(most - 1, n / 10, at, out);
-    put_byte(digit(n % 10), last, out)
-}
 
-pub(crate) fn put_decimal(n: usize, at: usize, out: &mut [u8]) -> usize
-    ensures { Puts (decimal n) at out.old out.new result }
-{
-    put_digits(MOST_DIGITS, n, at, out)
+    pub(crate) fn decimal(&mut self, n: usize)
+        ensures same_bytes { self.new.out.ghost_name ≡ self.old.out.ghost_name }
+        ensures puts { Puts (decimal n) self.old.at self.old.out.now self.new.out.now self.new.at }
+    {
+        let mut digits = Buffer::new();
+        self.bytes(digits.format(n).as_bytes());
+    }
 }

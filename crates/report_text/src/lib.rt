@@ -4,34 +4,37 @@
 mod bytes;
 mod lines;
 
+ghost use Rattle.std.specs.Prelude.{◌≡◌};
 ghost use Rattle.definitions.specs.WholeCalls.{ReportWritten};
 ghost use Rattle.report_text.specs.Putting.{Puts};
 ghost use Rattle.report_text.specs.Text.{header_text, refusal_text};
 
-use crate::bytes::{put_byte, put_bytes, put_decimal};
-use crate::lines::put_lines;
+use crate::bytes::Writer;
+use crate::lines::{Columns, put_lines};
 use definitions::Standardized;
 use definitions::limits::MOST_LISTED;
 
 // Room for every report, as specs/Text.antt has it; proofs/Room.antt shows that it is.
 pub const REPORT_BYTES: usize = 55 + MOST_LISTED * 86;
 
-fn put_refusal(k: usize, out: &mut [u8]) -> usize
-    ensures { Puts (refusal_text k) 0 out.old out.new result }
+fn put_refusal(writer: &mut Writer, k: usize)
+    ensures same_bytes { writer.new.out.ghost_name ≡ writer.old.out.ghost_name }
+    ensures puts { Puts (refusal_text k) writer.old.at writer.old.out.now writer.new.out.now writer.new.at }
 {
-    let named = put_bytes(b"refused ", 0, out);
-    let told = put_decimal(k, named, out);
-    put_byte(b'\n', told, out)
+    writer.bytes(b"refused ");
+    writer.decimal(k);
+    writer.byte(b'\n');
 }
 
-fn put_header(sites: usize, orbits: usize, out: &mut [u8]) -> usize
-    ensures { Puts (header_text sites orbits) 0 out.old out.new result }
+fn put_header(writer: &mut Writer, sites: usize, orbits: usize)
+    ensures same_bytes { writer.new.out.ghost_name ≡ writer.old.out.ghost_name }
+    ensures puts { Puts (header_text sites orbits) writer.old.at writer.old.out.now writer.new.out.now writer.new.at }
 {
-    let a = put_bytes(b"sites ", 0, out);
-    let b = put_decimal(sites, a, out);
-    let c = put_bytes(b" orbits ", b, out);
-    let d = put_decimal(orbits, c, out);
-    put_byte(b'\n', d, out)
+    writer.bytes(b"sites ");
+    writer.decimal(sites);
+    writer.bytes(b" orbits ");
+    writer.decimal(orbits);
+    writer.byte(b'\n');
 }
 
 // The count of the bytes that are the report's; behind them all is as it was.
@@ -52,11 +55,22 @@ pub fn put_report(
         })
         out.old out.new result }
 {
+    let mut writer = Writer { out, at: 0 };
     match res {
-        Standardized::Refused(k) => put_refusal(k, out),
+        Standardized::Refused(k) => {
+            put_refusal(&mut writer, k);
+            writer.at
+        }
         Standardized::Accepted(sites, orbits) => {
-            let at = put_header(sites, orbits, out);
-            put_lines(sites, mapping, labels, multiplicities, letters, at, out)
+            let columns = Columns {
+                mapping,
+                labels,
+                multiplicities,
+                letters,
+            };
+            put_header(&mut writer, sites, orbits);
+            put_lines(&mut writer, &columns, sites);
+            writer.at
         }
     }
 }

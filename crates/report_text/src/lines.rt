@@ -3,101 +3,76 @@ ghost use Rattle.std.specs.Prelude.{◌≡◌, get_or};
 ghost use Rattle.report_text.specs.Putting.{Puts};
 ghost use Rattle.report_text.specs.Text.{field_text, letter_text, line_text, lines_text};
 
-use crate::bytes::{put_byte, put_decimal};
+use crate::bytes::Writer;
 
-fn wide(x: u16) -> usize
-    ensures { result ≡ x }
-{
-    x as usize
+// What is shown of the listed sites, a list for each column; a list that ends early goes on with 0.
+#[derive(Clone, Copy)]
+pub(crate) struct Columns<'a> {
+    pub(crate) mapping: &'a [u16],
+    pub(crate) labels: &'a [u16],
+    pub(crate) multiplicities: &'a [u16],
+    pub(crate) letters: &'a [u8],
 }
 
-// 0 behind the list's end
-fn entry(list: &[u16], j: usize) -> usize
-    ensures { result ≡ get_or list.now j 0 }
+// what stands behind a list's end too
+fn entry<T: Copy + Drop>(list: &[T], j: usize, behind: T) -> T
+    ensures { result ≡ get_or list.now j behind }
 {
-    if j < list.len() {
-        return wide(list[j]);
-    }
-    0
+    list.get(j).copied().unwrap_or(behind)
 }
 
-fn byte_entry(list: &[u8], j: usize) -> u8
-    ensures { result ≡ get_or list.now j 0 }
+fn put_field(writer: &mut Writer, n: usize)
+    ensures same_bytes { writer.new.out.ghost_name ≡ writer.old.out.ghost_name }
+    ensures puts { Puts (field_text n) writer.old.at writer.old.out.now writer.new.out.now writer.new.at }
 {
-    if j < list.len() {
-        return list[j];
-    }
-    0
-}
-
-fn put_field(n: usize, at: usize, out: &mut [u8]) -> usize
-    ensures { Puts (field_text n) at out.old out.new result }
-{
-    let a = put_byte(b' ', at, out);
-    put_decimal(n, a, out)
+    writer.byte(b' ');
+    writer.decimal(n);
 }
 
 // the letter is its byte as given
-fn put_letter(letter: u8, at: usize, out: &mut [u8]) -> usize
-    ensures { Puts (letter_text letter) at out.old out.new result }
+fn put_letter(writer: &mut Writer, letter: u8)
+    ensures same_bytes { writer.new.out.ghost_name ≡ writer.old.out.ghost_name }
+    ensures puts { Puts (letter_text letter) writer.old.at writer.old.out.now writer.new.out.now writer.new.at }
 {
-    let a = put_byte(b' ', at, out);
-    let b = put_byte(letter, a, out);
-    put_byte(b'\n', b, out)
+    writer.byte(b' ');
+    writer.byte(letter);
+    writer.byte(b'\n');
 }
 
-fn put_line(
-    j: usize,
-    mapping: &[u16],
-    labels: &[u16],
-    multiplicities: &[u16],
-    letters: &[u8],
-    at: usize,
-    out: &mut [u8],
-) -> usize
-    ensures { Puts
+fn put_line(writer: &mut Writer, columns: &Columns, j: usize)
+    ensures same_bytes { writer.new.out.ghost_name ≡ writer.old.out.ghost_name }
+    ensures puts { Puts
         (line_text
         (record {
-          mapping = mapping.now;
-          labels = labels.now;
-          multiplicities = multiplicities.now;
-          letters = letters.now;
+          mapping = columns.now.mapping.now;
+          labels = columns.now.labels.now;
+          multiplicities = columns.now.multiplicities.now;
+          letters = columns.now.letters.now;
         })
         j)
-        at out.old out.new result }
+        writer.old.at writer.old.out.now writer.new.out.now writer.new.at }
 {
-    let a = put_decimal(j, at, out);
-    let b = put_field(entry(mapping, j), a, out);
-    let c = put_field(entry(labels, j), b, out);
-    let d = put_field(entry(multiplicities, j), c, out);
-    put_letter(byte_entry(letters, j), d, out)
+    writer.decimal(j);
+    put_field(writer, usize::from(entry(columns.mapping, j, 0)));
+    put_field(writer, usize::from(entry(columns.labels, j, 0)));
+    put_field(writer, usize::from(entry(columns.multiplicities, j, 0)));
+    put_letter(writer, entry(columns.letters, j, 0));
 }
 
-pub(crate) fn put_lines(
-    sites: usize,
-    mapping: &[u16],
-    labels: &[u16],
-    multiplicities: &[u16],
-    letters: &[u8],
-    at: usize,
-    out: &mut [u8],
-) -> usize
-    ensures { Puts
+pub(crate) fn put_lines(writer: &mut Writer, columns: &Columns, sites: usize)
+    ensures same_bytes { writer.new.out.ghost_name ≡ writer.old.out.ghost_name }
+    ensures puts { Puts
         (lines_text
         (record {
-          mapping = mapping.now;
-          labels = labels.now;
-          multiplicities = multiplicities.now;
-          letters = letters.now;
+          mapping = columns.now.mapping.now;
+          labels = columns.now.labels.now;
+          multiplicities = columns.now.multiplicities.now;
+          letters = columns.now.letters.now;
         })
         sites)
-        at out.old out.new result }
+        writer.old.at writer.old.out.now writer.new.out.now writer.new.at }
 {
-    let mut next = at;
-    let mut j: usize = 0;
-    while j < sites {
-        next = put_line(j, mapping, labels, multiplicities, letters, next, out);
-        j += 1;
+    for j in 0..sites {
+        put_line(writer, columns, j);
     }
-    next
 }

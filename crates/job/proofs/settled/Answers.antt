@@ -8,24 +8,12 @@ use Rattle.job.specs.Counted.{JobOf, Counted}
 use borrow.Author.Rules.{rules}
 use Rattle.job.proofs.settled.Goals as goal
 
-pub counted-r-requires : goal.counted-r-requires
-counted-r-requires c = search rules
-
-pub enum_known-r : goal.enum_known-r
-enum_known-r c = search rules
-
-pub short-requires : goal.short-requires
-short-requires c = search rules
-
 pub returns-then-short : goal.returns-then-short
 returns-then-short c =
     let k : JobCounts = c.in-Read.k in
     let q : c.counted-r.result ≡ Read k = search rules in
     let job : JobOf c.args.bytes.now k = subst (Counted c.args.bytes.now) q c.counted-r.ensures in
     inr (refl, (k, job, sym c.short.ensures ∙ c.if-short.true))
-
-pub enum_known-r-in-Refused-1 : goal.enum_known-r-in-Refused-1
-enum_known-r-in-Refused-1 c = search rules
 
 pub returns-else-short : goal.returns-else-short
 returns-else-short c =

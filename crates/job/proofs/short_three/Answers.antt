@@ -5,16 +5,12 @@ use borrow.Author.Tests.{lt-ltb, le-ltb}
 use Rattle.definitions.specs.Limits.{shorter_than}
 use Rattle.laws.specs.Lists.{any_head}
 use Rattle.job.proofs.Rooms.{any_skip}
-use borrow.Author.Rules.{rules}
 use Rattle.job.proofs.short_three.Goals as goal
 
 pub returns-then-a-n : goal.returns-then-a-n
 returns-then-a-n c =
     let a = c.args in
     sym (any_head (shorter_than a.n) a.a (a.b ∷ a.c ∷ []) (lt-ltb a.a a.n c.if-a-n.true))
-
-pub short_two-requires : goal.short_two-requires
-short_two-requires c = search rules
 
 pub returns : goal.returns
 returns c =

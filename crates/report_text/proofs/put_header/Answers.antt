@@ -2,12 +2,10 @@
 use Rattle.report_text.proofs.Putting.{puts_more}
 use Rattle.report_text.proofs.put_header.Goals as goal
 
-pub returns : goal.returns
-returns c =
-    let word = c.put_bytes-a in
-    let second = c.put_bytes-c in
+pub returns-clause-puts : goal.returns-clause-puts
+returns-clause-puts c =
     puts_more
     (puts_more
-    (puts_more (puts_more word.ensures c.put_decimal-b.ensures) second.ensures)
-    c.put_decimal-d.ensures)
-    c.put_byte.ensures
+    (puts_more (puts_more c.bytes.ensures.puts c.decimal.ensures.puts) c.bytes-2.ensures.puts)
+    c.decimal-2.ensures.puts)
+    c.byte.ensures.puts

@@ -2,6 +2,5 @@
 use Rattle.report_text.proofs.Putting.{puts_more}
 use Rattle.report_text.proofs.put_refusal.Goals as goal
 
-pub returns : goal.returns
-returns c =
-    puts_more (puts_more c.put_bytes-named.ensures c.put_decimal-told.ensures) c.put_byte.ensures
+pub returns-clause-puts : goal.returns-clause-puts
+returns-clause-puts c = puts_more (puts_more c.bytes.ensures.puts c.decimal.ensures.puts) c.byte.ensures.puts

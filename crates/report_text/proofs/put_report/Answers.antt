@@ -16,10 +16,10 @@ shown s =
 
 pub returns-in-Refused : goal.returns-in-Refused
 returns-in-Refused c =
-    report_refused c.args.res (shown (goal.at.returns-in-Refused c).Start) (search rules) c.put_refusal.ensures
+    report_refused c.args.res (shown (goal.at.returns-in-Refused c).Start) {k = c.in-Refused.k} c.in-Refused.is (search rules)
 
 pub returns-in-Accepted : goal.returns-in-Accepted
 returns-in-Accepted c =
-    let header = c.put_header-at in
-    report-accepted c.args.res (shown (goal.at.returns-in-Accepted c).Start) (search rules) header.ensures
-    c.put_lines.ensures
+    let header = c.put_header in
+    report-accepted c.args.res (shown (goal.at.returns-in-Accepted c).Start) c.in-Accepted.is c.put_header.ensures.puts
+    (search rules)

@@ -5,7 +5,6 @@ use native.Mathlib.Omega.{arith}
 use lib.ListN.{length}
 use Rattle.definitions.specs.Lent.{position_from}
 use Rattle.job.specs.Places.{operations_from, images_from, targets_from, rotations_from, candidates_from, symprec_from}
-use borrow.Author.Rules.{rules}
 use Rattle.job.proofs.fill.fill.Goals as goal
 use Rattle.job.proofs.fill.fill.Goals.{Start}
 
@@ -31,45 +30,6 @@ candidates_room_lem s = omega (arith, s.requires.0)
 
 symprec_room : (s : Start) → symprec_from s.args.k + 10 ≤ length s.args.bytes.now
 symprec_room s = omega (arith, s.requires.0)
-
-pub overflow_mul-operations_from : goal.overflow_mul-operations_from
-overflow_mul-operations_from c = search rules
-
-pub overflow_add-operations_from : goal.overflow_add-operations_from
-overflow_add-operations_from c = search rules
-
-pub overflow_mul-images_from : goal.overflow_mul-images_from
-overflow_mul-images_from c = search rules
-
-pub overflow_add-images_from : goal.overflow_add-images_from
-overflow_add-images_from c = search rules
-
-pub overflow_mul-targets_from : goal.overflow_mul-targets_from
-overflow_mul-targets_from c = search rules
-
-pub overflow_add-targets_from : goal.overflow_add-targets_from
-overflow_add-targets_from c = search rules
-
-pub overflow_mul-rotations_from : goal.overflow_mul-rotations_from
-overflow_mul-rotations_from c = search rules
-
-pub overflow_add-rotations_from : goal.overflow_add-rotations_from
-overflow_add-rotations_from c = search rules
-
-pub overflow_mul-candidates_from : goal.overflow_mul-candidates_from
-overflow_mul-candidates_from c = search rules
-
-pub overflow_add-candidates_from : goal.overflow_add-candidates_from
-overflow_add-candidates_from c = search rules
-
-pub overflow_mul-symprec_from : goal.overflow_mul-symprec_from
-overflow_mul-symprec_from c = search rules
-
-pub overflow_add-symprec_from : goal.overflow_add-symprec_from
-overflow_add-symprec_from c = search rules
-
-pub fill_opening-requires : goal.fill_opening-requires
-fill_opening-requires c = search rules
 
 pub fill_sites-requires : goal.fill_sites-requires
 fill_sites-requires c =

@@ -1,27 +1,16 @@
--- Every record before the place `end` is a whole command.
+-- `count_run`: all whole ones are met.
+use mathlib.Core.Path.{◌≡◌, subst}
+use Prim.Native.Nat.{ℕ, ◌-◌, ◌/◌}
 use native.Mathlib.Omega.{arith}
-use Rattle.job.proofs.CountedRun.{met_none, met_more, met_run}
+use lib.ListN.{length}
+use Rattle.job.specs.Places.{Run}
+use Rattle.job.proofs.CountedRun.{run_whole}
 use Rattle.job.proofs.layout.count_run.Goals as goal
-
-pub loop-end-init : goal.loop-end-init
-loop-end-init c =
-    let a = c.args in
-    met_none a.command a.width a.bytes.now a.at c.requires.0
-
-pub returns-then-bytes-end : goal.returns-then-bytes-end
-returns-then-bytes-end c =
-    let a = c.args in
-    let l = c.loop-end in
-    met_run a.command a.width a.bytes.now a.at l.end l.n l.invariant (λ h e. c.if-bytes-end.true e)
-
-pub loop-end-preserved : goal.loop-end-preserved
-loop-end-preserved c =
-    let a = c.args in
-    let l = c.loop-end in
-    met_more a.command a.width a.bytes.now a.at l.end l.n l.invariant c.requires.1 (omega (arith, c.loop-end-test.true)) c.if-bytes-end.false
 
 pub returns : goal.returns
 returns c =
     let a = c.args in
-    let l = c.loop-end in
-    met_run a.command a.width a.bytes.now a.at l.end l.n l.invariant (λ h e. absurd (omega (arith, c.loop-end-test.false)))
+    let n = c.loop-n.n in
+    let e : n ≡ (length a.bytes.now - a.at) / a.width = omega arith in
+    subst (λ (k : ℕ). Run a.command a.width a.bytes.now a.at k) e
+    (run_whole a.command a.width a.bytes.now a.at n c.requires.0 c.requires.1 e c.loop-n.invariant)

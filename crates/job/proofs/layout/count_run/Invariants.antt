@@ -1,10 +1,7 @@
-use Prim.Native.Nat.{◌-◌}
-use lib.ListN.{length}
-use Rattle.job.proofs.CountedRun.{Met}
+use Prim.Native.Nat.{ℕ, ◌+◌, ◌*◌, ◌<◌}
+use mathlib.Core.Path.{◌≡◌}
+use lib.ListN.{get_or}
 use Rattle.job.proofs.layout.count_run.Given as goal
 
-abbrev pub invariant-loop-end : goal.invariant-loop-end
-invariant-loop-end l = Met l.command l.width l.bytes l.at l.end l.n
-
-abbrev pub decreases-loop-end : goal.decreases-loop-end
-decreases-loop-end l = length l.bytes - l.end
+abbrev pub invariant-loop-n : goal.invariant-loop-n
+invariant-loop-n l = (i : ℕ) → i < l.n → get_or l.bytes (l.at + i * l.width) 0 ≡ l.command

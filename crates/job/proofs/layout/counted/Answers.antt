@@ -7,26 +7,16 @@ use Rattle.definitions.specs.Limits.{most_bytes}
 use Rattle.job_laws.specs.Reader.{bytes_known}
 use Rattle.job.specs.Places.{Closes}
 use Rattle.job.proofs.Jobs.{too_long, opens_not, closes_not, a_job}
-use borrow.Author.Rules.{rules}
 use Rattle.job.proofs.layout.counted.Goals as goal
 
 pub returns-then-bytes-gt-MOST_BYTES : goal.returns-then-bytes-gt-MOST_BYTES
 returns-then-bytes-gt-MOST_BYTES c = (refl, too_long c.args.bytes.now (omega (arith, c.if-bytes-gt-MOST_BYTES.true)))
-
-pub opens-requires : goal.opens-requires
-opens-requires c = search rules
 
 pub returns-then-not-opens : goal.returns-then-not-opens
 returns-then-not-opens c = (refl, opens_not c.args.bytes.now (c.opens.ensures.no (c.if-not-opens.true)))
 
 pub layout-k-requires : goal.layout-k-requires
 layout-k-requires c = (c.opens.ensures.yes (c.if-not-opens.false)).room
-
-pub symprec_from-end-requires : goal.symprec_from-end-requires
-symprec_from-end-requires c = search rules
-
-pub closes-requires : goal.closes-requires
-closes-requires c = search rules
 
 pub returns-then-not-closes : goal.returns-then-not-closes
 returns-then-not-closes c =

@@ -3,26 +3,16 @@ use Prim.Native.Nat.{◌≤◌}
 use native.Mathlib.Omega.{arith}
 use lib.ListN.{length}
 use Rattle.job.proofs.Decisions.{refuted, confirmed}
-use borrow.Author.Rules.{rules}
 use Rattle.job.proofs.layout.opens.Goals as goal
 
 pub returns-then-bytes-lt117 : goal.returns-then-bytes-lt117
 returns-then-bytes-lt117 c = refuted (λ o. let room : 117 ≤ length c.args.bytes.now = o.room in omega arith)
 
-pub bounds-bytes-0 : goal.bounds-bytes-0
-bounds-bytes-0 c = search rules
-
 pub returns-then-bytes-ne76 : goal.returns-then-bytes-ne76
 returns-then-bytes-ne76 c = refuted (λ o. c.if-bytes-ne76.true o.lattice)
 
-pub bounds-bytes-73 : goal.bounds-bytes-73
-bounds-bytes-73 c = search rules
-
 pub returns-then-bytes-ne84 : goal.returns-then-bytes-ne84
 returns-then-bytes-ne84 c = refuted (λ o. c.if-bytes-ne84.true o.transformation)
-
-pub bounds-bytes-107 : goal.bounds-bytes-107
-bounds-bytes-107 c = search rules
 
 pub returns-then-bytes-ne67 : goal.returns-then-bytes-ne67
 returns-then-bytes-ne67 c = refuted (λ o. c.if-bytes-ne67.true o.centring)

@@ -2,6 +2,5 @@
 use Rattle.report_text.proofs.Putting.{puts_more}
 use Rattle.report_text.proofs.lines.put_field.Goals as goal
 
-pub returns : goal.returns
-returns c =
-    puts_more c.put_byte-a.ensures c.put_decimal.ensures
+pub returns-clause-puts : goal.returns-clause-puts
+returns-clause-puts c = puts_more c.byte.ensures.puts c.decimal.ensures.puts

@@ -2,6 +2,5 @@
 use Rattle.report_text.proofs.Putting.{puts_more}
 use Rattle.report_text.proofs.lines.put_letter.Goals as goal
 
-pub returns : goal.returns
-returns c =
-    puts_more c.put_byte-a.ensures (puts_more c.put_byte-b.ensures c.put_byte.ensures)
+pub returns-clause-puts : goal.returns-clause-puts
+returns-clause-puts c = puts_more c.byte.ensures.puts (puts_more c.byte-2.ensures.puts c.byte-3.ensures.puts)
