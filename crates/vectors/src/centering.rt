@@ -2,7 +2,6 @@
 use crate::streams::Streams;
 use data_centering::linear;
 use definitions::Centering;
-use math_matrix::widened;
 use std::io::{self, Read, Write};
 
 fn centering_of(letter: u8) -> Centering {
@@ -18,7 +17,8 @@ fn centering_of(letter: u8) -> Centering {
 }
 
 pub(crate) fn run_linear<R: Read, W: Write>(streams: &mut Streams<R, W>) -> io::Result<()> {
-    let letter = crate::records::read_byte(streams)?;
-    crate::records::print(streams, &[b' ', letter])?;
-    crate::records::print_matrix(streams, widened(linear(centering_of(letter))))
+    let letter = streams.read()?;
+    streams.print(" ")?;
+    streams.print_char(letter)?;
+    streams.show(linear(centering_of(letter)))
 }

@@ -66,7 +66,6 @@ mod symmetrization;
 mod transformation;
 mod wyckoff;
 
-use crate::records::print;
 use crate::streams::Streams;
 use std::io::{self, BufReader, BufWriter, Read, Write};
 
@@ -100,19 +99,19 @@ fn run<R: Read, W: Write>(streams: &mut Streams<R, W>, tag: u8) -> io::Result<()
         b'J' => jobs::run_bytes(streams),
         b'j' => jobs::run_lists(streams),
         b'b' => jobs::run_read(streams),
-        _ => print(streams, b" is no tag"),
+        _ => streams.print(" is no tag"),
     }
 }
 
 // false where the input has ended: no tag is 0
 fn next<R: Read, W: Write>(streams: &mut Streams<R, W>) -> io::Result<bool> {
-    let tag = crate::records::read_byte(streams)?;
+    let tag = streams.read()?;
     if tag == 0 {
         return Ok(false);
     }
-    print(streams, &[tag])?;
+    streams.print_char(tag)?;
     run(streams, tag)?;
-    print(streams, b"\n")?;
+    streams.print("\n")?;
     Ok(true)
 }
 
@@ -120,7 +119,7 @@ fn next<R: Read, W: Write>(streams: &mut Streams<R, W>) -> io::Result<bool> {
 fn main(rt: HostRuntime) -> io::Result<()> {
     let input = BufReader::new(rt.alloc(), rt.reader())?;
     let output = BufWriter::new(rt.alloc(), io::writer(&rt))?;
-    let mut streams = Streams::new(input, output);
+    let mut streams = Streams::new(rt.alloc(), input, output);
     for _ in 0..u64::MAX {
         if !next(&mut streams)? {
             break;

@@ -1,15 +1,27 @@
 // Where records are read from and lines are written to.
+use crate::records::{Given, Shown};
+use std::alloc::Global;
 use std::io::{self, Read, Write};
+
+// The most entries of a list, and lent cells; of a long list, which is some more than a job's bytes may be.
+const MOST: usize = 1100;
+
+const MOST_LONG: usize = 65600;
 
 #[derive(Drop)]
 pub(crate) struct Streams<R, W> {
+    alloc: Global,
     input: R,
     output: W,
 }
 
 impl<R: Read, W: Write> Streams<R, W> {
-    pub(crate) fn new(input: R, output: W) -> Self {
-        Streams { input, output }
+    pub(crate) fn new(alloc: Global, input: R, output: W) -> Self {
+        Streams {
+            alloc,
+            input,
+            output,
+        }
     }
 
     // as far as the input goes: the rest of the buffer stays as it was
@@ -20,24 +32,92 @@ impl<R: Read, W: Write> Streams<R, W> {
         Ok(())
     }
 
-    // 0 past the end of the input
-    pub(crate) fn read_byte(&mut self) -> io::Result<u8> {
-        let mut s = [0u8; 1];
-        self.fill(&mut s)?;
-        Ok(s[0])
+    pub(crate) fn read<T: Given>(&mut self) -> io::Result<T> {
+        T::read(self)
     }
 
-    pub(crate) fn write_bytes(&mut self, text: &[u8]) -> io::Result<()> {
-        self.output.write_all(text)
+    // a number, two bytes
+    pub(crate) fn read_number(&mut self) -> io::Result<usize> {
+        Ok(usize::from(self.read::<u16>()?))
     }
 
-    pub(crate) fn write_decimal(&mut self, n: usize) -> io::Result<()> {
-        write!(self.output, "{n}")
+    // a size of any magnitude
+    pub(crate) fn read_size(&mut self) -> io::Result<usize> {
+        Ok(self.read::<u64>()? as usize)
     }
 
-    // no leading zeros but those that the width asks for
-    pub(crate) fn write_hex(&mut self, bits: u64, width: usize) -> io::Result<()> {
-        write!(self.output, "{bits:0width$x}")
+    fn read_entries<T: Given>(&mut self, n: usize) -> io::Result<Vec<T>> {
+        let mut entries = Vec::new(self.alloc);
+        for _ in 0..n {
+            entries.push(self.read()?)?;
+        }
+        Ok(entries)
+    }
+
+    // the count, then the entries
+    pub(crate) fn read_list<T: Given>(&mut self) -> io::Result<Vec<T>> {
+        let n = self.read_number()?;
+        self.read_entries(n.min(MOST))
+    }
+
+    // its count is a size
+    pub(crate) fn read_long(&mut self) -> io::Result<Vec<u8>> {
+        let n = self.read_size()?;
+        self.read_entries(n.min(MOST_LONG))
+    }
+
+    fn lend_cells<T: Shown>(&mut self, n: usize) -> io::Result<Vec<T>> {
+        let mut cells = Vec::new(self.alloc);
+        for _ in 0..n {
+            cells.push(T::SEVEN)?;
+        }
+        Ok(cells)
+    }
+
+    // Lent cells, no one of them zero: the record has their number.
+    pub(crate) fn lend<T: Shown>(&mut self) -> io::Result<Vec<T>> {
+        let n = self.read_number()?;
+        self.lend_cells(n.min(MOST))
+    }
+
+    pub(crate) fn lend_long(&mut self) -> io::Result<Vec<u8>> {
+        let n = self.read_number()?;
+        self.lend_cells(n.min(MOST_LONG))
+    }
+
+    pub(crate) fn print(&mut self, text: &str) -> io::Result<()> {
+        self.output.write_all(text.as_bytes())
+    }
+
+    // as it is, and not as a number
+    pub(crate) fn print_char(&mut self, byte: u8) -> io::Result<()> {
+        self.output.write_all(&[byte])
+    }
+
+    // each number with a space in front
+    pub(crate) fn show<T: Shown>(&mut self, x: T) -> io::Result<()> {
+        x.show(&mut self.output)
+    }
+
+    pub(crate) fn show_all<T: Shown>(&mut self, list: &[T]) -> io::Result<()> {
+        for x in list {
+            x.show(&mut self.output)?;
+        }
+        Ok(())
+    }
+
+    // with no leading zeros
+    pub(crate) fn show_pattern(&mut self, bits: u64) -> io::Result<()> {
+        write!(self.output, " {bits:x}")
+    }
+
+    // one word, two hexadecimal digits a byte
+    pub(crate) fn show_digits(&mut self, bytes: &[u8]) -> io::Result<()> {
+        self.print(" ")?;
+        for byte in bytes {
+            write!(self.output, "{byte:02x}")?;
+        }
+        Ok(())
     }
 
     pub(crate) fn flush(&mut self) -> io::Result<()> {
