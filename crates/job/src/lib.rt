@@ -4,7 +4,7 @@
 mod fill;
 pub mod layout;
 mod lists;
-mod operands;
+pub mod operands;
 
 ghost use Rattle.std.specs.Prelude.{◌≡◌, not, ◌&&◌};
 ghost use Rattle.definitions.specs.WholeCalls.{HoldsGiven, nothing_given, ReadPromise, CountPromise};

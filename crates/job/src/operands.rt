@@ -27,11 +27,11 @@ fn word_at(bytes: &[u8], at: usize) -> u64
 }
 
 // the value of a pattern; `from_bits` takes no NaN, so that one is made
-fn float_of(bits: u64) -> f64
+pub fn float_of(bits: u64) -> f64
     ensures { result ≡ of_bits binary64 bits }
 {
     if 0x7FF0_0000_0000_0000 < bits % 0x8000_0000_0000_0000 {
-        return 0.0f64 / 0.0f64;
+        return f64::NAN;
     }
     f64::from_bits(bits)
 }

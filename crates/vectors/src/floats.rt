@@ -1,8 +1,8 @@
 // Rounding and its steps, the square root, and the remainder modulo 1: the patterns that go in, then those that come
 // out.
-use crate::records::float_of;
 use crate::streams::Streams;
 use definitions::Position;
+use job::operands::float_of;
 use math_real::position::remainder;
 use math_round::cases::{nearest, special, tie};
 use math_round::round;

@@ -1,11 +1,8 @@
 // What records hold and lines show, for the program that runs vectors. Numbers are little-endian; past the end of the
 // input they are 0. Each word that is shown has a space in front.
-ghost use Rattle.std.specs.Prelude.{◌≡◌};
-ghost use Rattle.std.specs.Float.{binary64};
-ghost use Rattle.std.specs.Float.Ieee.{of_bits};
-
 use crate::streams::Streams;
 use definitions::{Text, Verdict};
+use job::operands::float_of;
 use std::io::{self, Read, Write};
 
 // ---- what a record holds
@@ -56,16 +53,6 @@ impl Given for u64 {
         streams.fill(&mut s)?;
         Ok(u64::from_le_bytes(s))
     }
-}
-
-// The value of a pattern; `from_bits` takes no NaN, so that one is made.
-pub(crate) fn float_of(bits: u64) -> f64
-    ensures { result ≡ of_bits binary64 bits }
-{
-    if 0x7FF0_0000_0000_0000 < bits % 0x8000_0000_0000_0000 {
-        return 0.0f64 / 0.0f64;
-    }
-    f64::from_bits(bits)
 }
 
 impl Given for f64 {
