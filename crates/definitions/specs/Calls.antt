@@ -5,17 +5,17 @@
 use Rattle.std.specs.Prelude.{ℕ, ◌*◌, ◌≡◌, Bool, true, false, not, ◌||◌, List, [], ◌∷◌, map, length, T, leb, eqb, ℤ, Float}
 use Rattle.std.proofs.Math.Option.{Option, none, some}
 use Rattle.definitions.specs.declared.Position.{Position}
-use Rattle.definitions.specs.declared.Verdict.{Verdict}
-use Rattle.definitions.specs.declared.Verdict.TheVariants.{Accepted, Refused}
-use Rattle.definitions.specs.declared.Image.{Image}
-use Rattle.definitions.specs.declared.Image.TheVariants as image
+use Rattle.std.specs.Prelude.{Result, Ok, Err}
+use Rattle.definitions.specs.declared.PrimSite.{PrimSite}
+use Rattle.definitions.specs.declared.Refusal.{Refusal}
+use Rattle.definitions.specs.declared.Refusal.TheVariants.{MatrixEntry, Diagonalisation}
 use Rattle.definitions.specs.declared.Stages.{Stages}
 use Rattle.definitions.specs.declared.Passes.{Passes}
 use Rattle.definitions.specs.declared.Passes.TheVariants.{Counted, Left, Outside}
 use Rattle.definitions.specs.Lists.{all, each, up_to}
 use Rattle.definitions.specs.Refusal.{Condition, ◌when◌, counts, matrix_entry, float_range, site_image}
 use Rattle.definitions.specs.Refusal.{determinant, diagonalisation, buffer, target_rotation, lattice}
-use Rattle.definitions.specs.Refusal.{Outcome, accepted, refused, Returns, Checked, lent_value, Filled, Promised}
+use Rattle.definitions.specs.Refusal.{number, outcome, Verdict, Returns, Checked, lent_value, Filled, Promised}
 use Rattle.definitions.specs.Refusal.{Holds}
 use Rattle.definitions.specs.Limits.{too_many_sites, not_some, in_range, in_range_of_c, lattice_within}
 use Rattle.definitions.specs.Limits.{position_within, not_unimodular, copies, bad_copies, shorter_than}
@@ -47,8 +47,8 @@ abbrev pub zero_state : State
 zero_state = record { d = zero_matrix; l = zero_matrix; r = zero_matrix }
 
 abbrev pub SnfLent : Matrix → Verdict → State → Type 0
-SnfLent m Accepted t = IsSnf m t
-SnfLent m (Refused k) t = t ≡ zero_state
+SnfLent m (Ok u) t = IsSnf m t
+SnfLent m (Err r) t = t ≡ zero_state
 
 -- D, L and R, lent, are those of the run of m
 abbrev pub SnfPromise : Matrix → State → Verdict → Type 0
@@ -56,18 +56,18 @@ SnfPromise m t v = Checked (snf_conditions m) v × SnfLent m v t
 
 -- Request M-113 of document 02: how many passes each stage has.
 
--- `Passes`, case by case: accepted, or the number; and the passes of each stage, if they are told
+-- `Passes`, case by case: accepted, or the refusal; and the passes of each stage, if they are told
 abbrev pub passes_told : Passes → Verdict × Option Stages
-passes_told (Counted s) = (Accepted, some s)
-passes_told (Left s) = (Refused diagonalisation, some s)
-passes_told Outside = (Refused matrix_entry, none)
+passes_told (Counted s) = (Ok tt, some s)
+passes_told (Left s) = (Err Diagonalisation, some s)
+passes_told Outside = (Err MatrixEntry, none)
 
 -- What goes with a verdict on m: accepted, the passes of its run; "where 8 applies, it answers 8 together with the
 -- passes begun up to there"; any other number stands alone.
 abbrev pub PassesWith : Matrix → Verdict → Option Stages → Type 0
-PassesWith m Accepted o = (r : Run m) × (o ≡ some (passes_of r))
-PassesWith m (Refused k) o =
-    elim (eqb k diagonalisation) [ true ↦ (r : Run m) × (o ≡ some (begun_of r)) | false ↦ o ≡ none ]
+PassesWith m (Ok u) o = (r : Run m) × (o ≡ some (passes_of r))
+PassesWith m (Err k) o =
+    elim (eqb (number k) diagonalisation) [ true ↦ (r : Run m) × (o ≡ some (begun_of r)) | false ↦ o ≡ none ]
 
 -- the conditions of `SNF::new`: 3, 8
 abbrev pub PassesPromise : Matrix → Passes → Type 0
@@ -105,13 +105,8 @@ abbrev pub image_conditions : List ℕ → ℕ → List Condition
 image_conditions p i =
     (counts when T (too_many_sites (length p))) ∷ (site_image when T (bad_permutation p || leb (length p) i)) ∷ []
 
--- `Image`, case by case
-abbrev pub image_outcome : Image → Outcome ℕ
-image_outcome (image.Site i) = accepted i.0
-image_outcome (image.Refused k) = refused k
-
-abbrev pub ImagePromise : List ℕ → ℕ → Image → Type 0
-ImagePromise p i r = Returns (image_conditions p i) (λ (a : ℕ). a ≡ image p i) (image_outcome r)
+abbrev pub ImagePromise : List ℕ → ℕ → Result PrimSite Refusal → Type 0
+ImagePromise p i r = Returns (image_conditions p i) (λ (a : ℕ). a ≡ image p i) (outcome (λ s. s.0) r)
 
 -- the inverse: 2, 5, 10
 abbrev pub inverse_conditions : List ℕ → ℕ → List Condition
@@ -167,8 +162,8 @@ points_conditions c room =
 
 -- those of a run of the diagonalisation and zero points behind them, or zero points only
 abbrev pub PointsLent : Matrix → List (List ℤ) → List (List ℤ) → Verdict → Type 0
-PointsLent c entry exit Accepted = (r : Run c) × Holds zero_point entry exit (points r.third)
-PointsLent c entry exit (Refused k) = Holds zero_point entry exit []
+PointsLent c entry exit (Ok u) = (r : Run c) × Holds zero_point entry exit (points r.third)
+PointsLent c entry exit (Err r) = Holds zero_point entry exit []
 
 abbrev pub PointsPromise : Matrix → List (List ℤ) → List (List ℤ) → Verdict → Type 0
 PointsPromise c entry exit v = Checked (points_conditions c (length entry)) v × PointsLent c entry exit v

@@ -1,8 +1,23 @@
 -- "A call returns an accepted answer, or one number and nothing else." The one place of the numbers, and of the order
 -- in which they are checked.
 use Rattle.std.specs.Prelude.{ℕ, ◌-◌, true, false, ◌≡◌, List, [], ◌∷◌, ◌++◌, ◌⊎◌, eqb, length, replicate}
-use Rattle.definitions.specs.declared.Verdict.{Verdict}
-use Rattle.definitions.specs.declared.Verdict.TheVariants.{Accepted, Refused}
+use Rattle.std.specs.Prelude.{Result, Ok, Err}
+use Rattle.definitions.specs.declared.Refusal.{Refusal}
+use Rattle.definitions.specs.declared.Refusal.TheVariants.{
+  JobBytes,
+  Counts,
+  MatrixEntry,
+  FloatRange,
+  SiteImage,
+  Coordinates,
+  Determinant,
+  Diagonalisation,
+  ListedSites,
+  Buffer,
+  TargetRotation,
+  Lattice,
+  OrbitFit,
+}
 
 -- ---- the numbers
 
@@ -44,6 +59,22 @@ lattice = 12
 
 abbrev pub orbit_fit : ℕ
 orbit_fit = 13
+
+-- "If an answer is an enum, a definition lists this paper's number .. for each of its cases"
+abbrev pub number : Refusal → ℕ
+number JobBytes = job_bytes
+number Counts = counts
+number MatrixEntry = matrix_entry
+number FloatRange = float_range
+number SiteImage = site_image
+number Coordinates = coordinates
+number Determinant = determinant
+number Diagonalisation = diagonalisation
+number ListedSites = listed_sites
+number Buffer = buffer
+number TargetRotation = target_rotation
+number Lattice = lattice
+number OrbitFit = orbit_fit
 
 -- The order of precedence: "The lowest number that applies is returned". A later request inserts its number here, and
 -- nothing below changes.
@@ -111,11 +142,19 @@ unfoldable pub Returns : {A : Type 0} → List Condition → (A → Type 0) → 
 Returns cs Answer (accepted a) = PastAll cs × Answer a
 Returns cs Answer (refused k) = Applies cs k × Past k cs
 
--- "If an answer is an enum, a definition lists this paper's number and values for each of its cases": the verdict of a
--- call whose answer a stands in lent lists.
+-- "If an answer is an enum, a definition lists this paper's number and values for each of its cases": what a call
+-- returns, where f reads this paper's answer off what the code's holds.
+abbrev pub outcome : {A B : Type 0} → (B → A) → Result B Refusal → Outcome A
+outcome f (Ok b) = accepted (f b)
+outcome f (Err r) = refused (number r)
+
+-- what a call says whose answer stands in lent lists
+abbrev pub Verdict : Type 0
+Verdict = Result (Unit {0}) Refusal
+
+-- the verdict of a call whose answer a stands in lent lists
 abbrev pub outcome_of : {A : Type 0} → A → Verdict → Outcome A
-outcome_of a Accepted = accepted a
-outcome_of a (Refused k) = refused k
+outcome_of a v = outcome (λ u. a) v
 
 -- The verdict v is right for the conditions cs: accepted where no number applies, and otherwise refused with the first
 -- that does.
@@ -125,8 +164,8 @@ Checked cs v = Returns cs (λ (u : Unit {0}). Unit {0}) (outcome_of tt v)
 
 -- A lent value after the call: the answer if it accepts, zero if it refuses.
 abbrev pub lent_value : {A : Type 0} → A → A → Verdict → A
-lent_value zero answer Accepted = answer
-lent_value zero answer (Refused k) = zero
+lent_value zero answer (Ok u) = answer
+lent_value zero answer (Err r) = zero
 
 -- a list at the front of so many cells, the others zero
 abbrev pub padded : {A : Type 0} → A → List A → ℕ → List A
@@ -134,8 +173,8 @@ padded zero front room = front ++ replicate (room - length front) zero
 
 -- what a call writes: its answer if it accepts, nothing if it refuses
 abbrev pub written : {A : Type 0} → Verdict → List A → List A
-written Accepted answer = answer
-written (Refused k) answer = []
+written (Ok u) answer = answer
+written (Err r) answer = []
 
 -- A lent list after the call: "After a refusal all lent output is zero", "and so are output entries past the answer".
 abbrev pub Lent : {A : Type 0} → A → List A → List A → List A → Verdict → Type 0
@@ -154,14 +193,18 @@ abbrev pub Answered : {A : Type 0} → List Condition → (A → Type 0) → (A 
 Answered cs Is Holds Zero (accepted a) = Returns cs Is (accepted a) × Holds a
 Answered cs Is Holds Zero (refused k) = Returns cs Is (refused k) × Zero
 
--- what is told of an outcome
-abbrev pub told : {A : Type 0} → Outcome A → Verdict
-told (accepted a) = Accepted
-told (refused k) = Refused k
+-- what is told of an outcome, where g is told of an accepted answer
+abbrev pub told : {A B : Type 0} → (A → B) → Outcome A → Outcome B
+told g (accepted a) = accepted (g a)
+told g (refused k) = refused k
+
+-- The result r tells the outcome o: an accepted answer by what g says of it, a refusal by its number.
+abbrev pub TellsOf : {A B : Type 0} → (A → B) → Outcome A → Result B Refusal → Type 0
+TellsOf g o r = told g o ≡ outcome (λ b. b) r
 
 -- The promise: there is such an outcome, and the verdict v tells it.
 abbrev pub Promised : {A : Type 0} → List Condition → (A → Type 0) → (A → Type 0) → Type 0 → Verdict → Type 0
-Promised {A} cs Is Holds Zero v = (o : Outcome A) × Answered cs Is Holds Zero o × (told o ≡ v)
+Promised {A} cs Is Holds Zero v = (o : Outcome A) × Answered cs Is Holds Zero o × TellsOf (λ a. tt) o v
 
 -- one lent list holds an answer, and is zero behind it
 abbrev pub Holds : {A : Type 0} → A → List A → List A → List A → Type 0

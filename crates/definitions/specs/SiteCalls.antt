@@ -1,16 +1,14 @@
 -- The public calls on listed sites: to list, to label, to read and to prepare a candidate, to match, to letter.
 use Rattle.std.specs.Prelude.{ℕ, ◌*◌, ◌≡◌, Bool, cond, not, ◌&&◌, ◌||◌, List, [], ◌∷◌, map, length, get_or, T, ltb, ℤ, pos, Float}
 use Rattle.definitions.specs.declared.Position.{Position}
-use Rattle.definitions.specs.declared.Match.{Match}
-use Rattle.definitions.specs.declared.Verdict.{Verdict}
-use Rattle.definitions.specs.declared.Verdict.TheVariants.{Accepted, Refused}
-use Rattle.definitions.specs.declared.Matching.{Matching}
-use Rattle.definitions.specs.declared.Matching.TheVariants as matching
+use Rattle.std.specs.Prelude.{Option, Result, Ok, Err}
+use Rattle.definitions.specs.declared.Fit.{Fit}
+use Rattle.definitions.specs.declared.Refusal.{Refusal}
 use Rattle.definitions.specs.Lists.{all, any, up_to, Some}
 use Rattle.definitions.specs.Refusal.{Condition, ◌when◌, counts, matrix_entry, float_range, site_image}
 use Rattle.definitions.specs.Refusal.{coordinates}
 use Rattle.definitions.specs.Refusal.{determinant, diagonalisation, listed_sites, buffer, orbit_fit}
-use Rattle.definitions.specs.Refusal.{Outcome, accepted, refused, Returns, Checked, Answered, Promised, Holds}
+use Rattle.definitions.specs.Refusal.{Outcome, outcome, Verdict, Returns, Checked, Answered, Promised, Holds}
 use Rattle.definitions.specs.Limits.{too_many_sites, too_many_candidates, most_copies, in_range_of_c, lattice_within}
 use Rattle.definitions.specs.Limits.{position_within, good_symprec, copies, bad_copies, too_many_listed, shorter_than}
 use Rattle.definitions.specs.Matrix.{Matrix}
@@ -179,8 +177,8 @@ text_conditions text = (coordinates when (Readable text → ⊥)) ∷ []
 
 -- what the call that reads coordinates leaves: the rows and the origin of the tree that the text reads as, or zero
 abbrev pub CoordinatesLent : List ℕ → Matrix → List Float → Verdict → Type 0
-CoordinatesLent text m q Accepted = (t : Triplet) × Reads text t × (m ≡ rows t) × (q ≡ cells_of (origin_of t))
-CoordinatesLent text m q (Refused k) = (m ≡ zero_matrix) × (q ≡ zero_cells)
+CoordinatesLent text m q (Ok u) = (t : Triplet) × Reads text t × (m ≡ rows t) × (q ≡ cells_of (origin_of t))
+CoordinatesLent text m q (Err r) = (m ≡ zero_matrix) × (q ≡ zero_cells)
 
 -- Read the coordinates of a candidate.
 abbrev pub CoordinatesPromise : List ℕ → Matrix → List Float → Verdict → Type 0
@@ -195,8 +193,8 @@ abbrev pub space_from : Matrix → List Float → State → Space
 space_from m q s = record { matrix = m; shift = position_from q; snf = s }
 
 abbrev pub SpaceLent : List ℕ → Matrix → List Float → State → Verdict → Type 0
-SpaceLent text m q s Accepted = IsSpace text (space_from m q s) × (cells_of (position_from q) ≡ q)
-SpaceLent text m q s (Refused k) = (m ≡ zero_matrix) × (q ≡ zero_cells) × (s ≡ zero_state)
+SpaceLent text m q s (Ok u) = IsSpace text (space_from m q s) × (cells_of (position_from q) ≡ q)
+SpaceLent text m q s (Err r) = (m ≡ zero_matrix) × (q ≡ zero_cells) × (s ≡ zero_state)
 
 abbrev pub PreparePromise : List ℕ → Matrix → List Float → State → Verdict → Type 0
 PreparePromise text m q s v = Checked (prepare_conditions text) v × SpaceLent text m q s v
@@ -242,16 +240,12 @@ match_conditions basis p text symprec =
     ∷ (diagonalisation when TextLeaves text)
     ∷ []
 
--- `Matching`, case by case: a match, which fits or misses, or the number of a refusal
-abbrev pub match_outcome : Matching → Outcome Match
-match_outcome (matching.Answered m) = accepted m
-match_outcome (matching.Refused k) = refused k
-
-abbrev pub MatchPromise : RealMatrix → Position → List ℕ → Float → Matching → Type 0
+-- "A match either fits, with the offset's place and the distance, or misses"
+abbrev pub MatchPromise : RealMatrix → Position → List ℕ → Float → Result (Option Fit) Refusal → Type 0
 MatchPromise basis p text symprec r =
     Returns (match_conditions basis p text symprec)
     (λ m. (s : Space) × IsSpace text s × (m ≡ match_of basis symprec s p))
-    (match_outcome r)
+    (outcome (λ m. m) r)
 
 -- The arguments of the letter call: those of the label call, listed positions, the listed basis, candidates as three
 -- lists, symprec.

@@ -4,7 +4,8 @@ use Rattle.std.proofs.Math.Option.{some}
 use Rattle.std.proofs.Common.{inl}
 use Rattle.std.specs.Float.{binary64}
 use Rattle.std.specs.Float.Ieee.{of_bits, round, add, sub, sum, neg, div, rem, of_int}
-use Rattle.definitions.specs.declared.Verdict.TheVariants.{Refused}
+use Rattle.std.specs.Prelude.{Err}
+use Rattle.definitions.specs.declared.Refusal.TheVariants.{Coordinates}
 use Rattle.definitions.specs.Lists.{all, count, each, first, those, up_from}
 use Rattle.definitions.specs.Refusal.{precedence, upto, coordinates, determinant, ◌when◌, Applies, NoneOf}
 use Rattle.definitions.specs.Refusal.{Returns, Checked, padded}
@@ -34,7 +35,7 @@ unfolding precedence upto
 in_order = (refl, refl)
 
 -- where 7 and 6 apply, 6 is returned
-lower_first : Checked ((determinant when Unit {0}) ∷ (coordinates when Unit {0}) ∷ []) (Refused 6)
+lower_first : Checked ((determinant when Unit {0}) ∷ (coordinates when Unit {0}) ∷ []) (Err Coordinates)
 unfolding Checked Returns Applies NoneOf upto precedence
 lower_first = (inl tt, (λ a. a, (λ a. a, (λ a. a, (λ a. a, (λ a. a, tt))))))
 

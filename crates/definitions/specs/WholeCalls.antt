@@ -1,14 +1,13 @@
 -- The whole call, on a job's lists and on its bytes, and the report.
 use Rattle.std.specs.Prelude.{ℕ, ◌≡◌, Bool, ◌||◌, List, [], ◌∷◌, ◌++◌, map, length, get_or, replicate, take, drop, T, ℤ, pos, Float}
 use Rattle.definitions.specs.declared.Position.{Position}
-use Rattle.definitions.specs.declared.Standardized.{Standardized}
-use Rattle.definitions.specs.declared.Standardized.TheVariants as standardized
+use Rattle.std.specs.Prelude.{Result}
+use Rattle.definitions.specs.declared.Refusal.{Refusal}
+use Rattle.definitions.specs.declared.AnswerCounts.{AnswerCounts}
 use Rattle.definitions.specs.declared.JobCounts.{JobCounts}
-use Rattle.definitions.specs.declared.JobRead.{JobRead}
-use Rattle.definitions.specs.declared.JobRead.TheVariants as job
 use Rattle.definitions.specs.Lists.{any}
 use Rattle.definitions.specs.Refusal.{Condition, ◌when◌, job_bytes, counts, buffer}
-use Rattle.definitions.specs.Refusal.{Outcome, accepted, refused, Returns, Answered, Holds}
+use Rattle.definitions.specs.Refusal.{Outcome, accepted, TellsOf, Returns, Answered, Holds}
 use Rattle.definitions.specs.Matrix.{Matrix}
 use Rattle.definitions.specs.Limits.{text_bytes, most_sites, most_listed, shorter_than}
 use Rattle.definitions.specs.Real.{RealMatrix, zero_f, origin}
@@ -129,24 +128,24 @@ nothing_answered =
       orbits = 0;
     }
 
--- `Standardized`, case by case: an answer's counts, or the number of a refusal
-abbrev pub told_whole : Outcome Answer → Standardized
-told_whole (accepted a) = standardized.Accepted a.sites a.orbits
-told_whole (refused k) = standardized.Refused k
+-- what is told of an answer beside its lists
+abbrev pub answer_counts : Answer → AnswerCounts
+answer_counts a = record { sites = a.sites; orbits = a.orbits }
 
 abbrev pub WholeAnswered : List Condition → (Answer → Type 0) → AnswerCells → AnswerCells → Outcome Answer → Type 0
 WholeAnswered cs Is entry exit = Answered cs Is (HoldsAnswer entry exit) (HoldsAnswer entry exit nothing_answered)
 
-abbrev pub WholePromised : List Condition → (Answer → Type 0) → AnswerCells → AnswerCells → Standardized → Type 0
-WholePromised cs Is entry exit r = (o : Outcome Answer) × WholeAnswered cs Is entry exit o × (told_whole o ≡ r)
+abbrev pub WholePromised :
+    List Condition → (Answer → Type 0) → AnswerCells → AnswerCells → Result AnswerCounts Refusal → Type 0
+WholePromised cs Is entry exit r = (o : Outcome Answer) × WholeAnswered cs Is entry exit o × TellsOf answer_counts o r
 
 -- the whole call on lists
-abbrev pub ListsPromise : Given → AnswerCells → AnswerCells → Standardized → Type 0
+abbrev pub ListsPromise : Given → AnswerCells → AnswerCells → Result AnswerCounts Refusal → Type 0
 ListsPromise x entry exit =
     WholePromised (lists_conditions x (rooms_of entry)) (IsAnswer (job_from x)) entry exit
 
 -- the whole call on bytes
-abbrev pub BytesPromise : List ℕ → AnswerCells → AnswerCells → Standardized → Type 0
+abbrev pub BytesPromise : List ℕ → AnswerCells → AnswerCells → Result AnswerCounts Refusal → Type 0
 BytesPromise bs entry exit =
     WholePromised (bytes_conditions bs (rooms_of entry)) (λ a. OfParts bs (λ p. IsAnswer (job_of p) a)) entry exit
 
@@ -248,24 +247,19 @@ counts_of p =
       candidates = length p.candidates;
     }
 
--- `JobRead`, case by case
-abbrev pub told_read : Outcome Parts → JobRead
-told_read (accepted p) = job.Read (counts_of p)
-told_read (refused k) = job.Refused k
-
-abbrev pub ReadPromise : List ℕ → Given → Given → JobRead → Type 0
+abbrev pub ReadPromise : List ℕ → Given → Given → Result JobCounts Refusal → Type 0
 ReadPromise bs entry exit r =
     (o : Outcome Parts)
     × Answered (read_conditions bs entry) (IsJob bs) (λ p. HoldsGiven entry exit (given_of p))
     (HoldsGiven entry exit nothing_given) o
-    × (told_read o ≡ r)
+    × TellsOf counts_of o r
 
 -- Count the commands of a job's bytes: 1.
 abbrev pub count_conditions : List ℕ → List Condition
 count_conditions bs = (job_bytes when NoJob bs) ∷ []
 
-abbrev pub CountPromise : List ℕ → JobRead → Type 0
-CountPromise bs r = (o : Outcome Parts) × Returns (count_conditions bs) (IsJob bs) o × (told_read o ≡ r)
+abbrev pub CountPromise : List ℕ → Result JobCounts Refusal → Type 0
+CountPromise bs r = (o : Outcome Parts) × Returns (count_conditions bs) (IsJob bs) o × TellsOf counts_of o r
 
 -- ---- the report program
 
@@ -294,8 +288,8 @@ abbrev pub SameEntries : List ℕ → List ℕ → Type 0
 SameEntries cells answer = (j : ℕ) → get_or cells j 0 ≡ get_or answer j 0
 
 -- What is told of a job, and the cells of these lists, are those of the outcome o.
-pub record Tells (r : Standardized) (cells : Shown) (o : Outcome Answer) : Type 0 where
-  pub told : told_whole o ≡ r
+pub record Tells (r : Result AnswerCounts Refusal) (cells : Shown) (o : Outcome Answer) : Type 0 where
+  pub told : TellsOf answer_counts o r
   pub mapping : (a : Answer) → o ≡ accepted a → SameEntries cells.mapping a.mapping
   pub labels : (a : Answer) → o ≡ accepted a → SameEntries cells.labels a.labels
   pub multiplicities : (a : Answer) → o ≡ accepted a → SameEntries cells.multiplicities a.multiplicities
@@ -307,7 +301,7 @@ pub record Written (text entry exit : List ℕ) (n : ℕ) : Type 0 where
   pub count : n ≡ length (take (length entry) text)
 
 -- the step that writes the report
-abbrev pub ReportWritten : Standardized → Shown → List ℕ → List ℕ → ℕ → Type 0
+abbrev pub ReportWritten : Result AnswerCounts Refusal → Shown → List ℕ → List ℕ → ℕ → Type 0
 ReportWritten r cells entry exit n = (o : Outcome Answer) → Tells r cells o → Written (report o) entry exit n
 
 -- the text that is printed for the bytes on standard input

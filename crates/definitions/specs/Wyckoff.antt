@@ -4,8 +4,9 @@ use Rattle.std.proofs.Math.Option.{Option, none, some}
 use Rattle.std.specs.Float.{binary64}
 use Rattle.std.specs.Float.Ieee.{div, lt}
 use Rattle.definitions.specs.declared.Position.{Position}
-use Rattle.definitions.specs.declared.Match.{Match}
-use Rattle.definitions.specs.declared.Match.TheVariants.{Fits, Misses}
+use Rattle.std.specs.Prelude.{Some, None}
+use Rattle.std.specs.Prelude as Prelude
+use Rattle.definitions.specs.declared.Fit.{Fit}
 use Rattle.definitions.specs.Lists.{all, any, each, first, those}
 use Rattle.definitions.specs.Matrix.{Matrix, at}
 use Rattle.definitions.specs.Real.{RealMatrix, zero_f, origin, real_of, real, apply_f, add_p, sub_p, norm}
@@ -68,17 +69,17 @@ unfolding distance
 fits_at basis symprec s p o = lt (distance basis s p o) symprec
 
 -- the first of the offsets os that fits, their places counted from k
-unfoldable pub match_from : RealMatrix → Float → Space → Position → ℕ → List (List ℤ) → Match
+unfoldable pub match_from : RealMatrix → Float → Space → Position → ℕ → List (List ℤ) → Prelude.Option Fit
 unfolding fits_at distance
-match_from basis symprec s p k [] = Misses
+match_from basis symprec s p k [] = None
 match_from basis symprec s p k (o ∷ os) =
     elim (fits_at basis symprec s p o) [
-      | true ↦ Fits k (distance basis s p o)
+      | true ↦ Some (record { place = k; distance = distance basis s p o })
       | false ↦ match_from basis symprec s p (suc k) os
     ]
 
 -- "A match either fits, with the offset's place and the distance, or misses"
-unfoldable pub match_of : RealMatrix → Float → Space → Position → Match
+unfoldable pub match_of : RealMatrix → Float → Space → Position → Prelude.Option Fit
 unfolding match_from offsets
 match_of basis symprec s p = match_from basis symprec s p 0 offsets
 

@@ -1,9 +1,12 @@
-// The types that document 01 names, the refusals' numbers and the limits. The definitions about them stand in specs/,
-// in 01's order.
+// The types that document 01 names, the refusals and the limits. The definitions about them stand in specs/, in 01's
+// order.
 #![tactic(auto)]
 
+ghost use Rattle.std.specs.Prelude.{◌≡◌};
+ghost use Rattle.definitions.specs.Lent.{position_from, cells_of};
+ghost use Rattle.definitions.specs.Refusal.{number};
+
 pub mod limits;
-pub mod refusal;
 
 // ---- three rows of three
 
@@ -46,6 +49,30 @@ pub struct Position {
     pub z: f64,
 }
 
+impl From<Cells> for Position {
+    ghost from_gives = { λ v p. p ≡ position_from v };
+
+    fn from(v: Cells) -> Position
+        ensures { result ≡ position_from v }
+    {
+        Position {
+            x: v[0],
+            y: v[1],
+            z: v[2],
+        }
+    }
+}
+
+impl From<Position> for Cells {
+    ghost from_gives = { λ p v. v ≡ cells_of p };
+
+    fn from(p: Position) -> Cells
+        ensures { result ≡ cells_of p }
+    {
+        [p.x, p.y, p.z]
+    }
+}
+
 // The number of a primitive site.
 #[derive(Clone, Copy)]
 pub struct PrimSite(pub usize);
@@ -66,32 +93,64 @@ pub enum Centering {
     F,
 }
 
-// A match either fits, with the offset's place and the distance, or misses.
+// Where a position fits a candidate: the offset's place, and the distance. A match that misses is no `Fit`.
 #[derive(Clone, Copy)]
-pub enum Match {
-    Fits(usize, f64),
-    Misses,
+pub struct Fit {
+    pub place: usize,
+    pub distance: f64,
 }
 
-// What a call says whose answer stands in lent lists: accepted, or refused with one number.
-#[derive(Clone, Copy)]
-pub enum Verdict {
-    Accepted,
-    Refused(usize),
+// The refusals, in the order in which they are checked. Their numbers stand in definitions/specs/Refusal.antt, and here
+// once, for what C and a report are told.
+#[derive(Clone, Copy, PartialEq, Eq, PartialOrd, Ord)]
+pub enum Refusal {
+    JobBytes,
+    Counts,
+    MatrixEntry,
+    FloatRange,
+    SiteImage,
+    Coordinates,
+    Determinant,
+    Diagonalisation,
+    ListedSites,
+    Buffer,
+    TargetRotation,
+    Lattice,
+    OrbitFit,
 }
 
-// What the call that matches one position with one candidate says: a match, or refused with one number.
-#[derive(Clone, Copy)]
-pub enum Matching {
-    Answered(Match),
-    Refused(usize),
+impl From<Refusal> for usize {
+    ghost from_gives = { λ r n. n ≡ number r };
+
+    fn from(r: Refusal) -> usize
+        ensures { result ≡ number r }
+    {
+        match r {
+            Refusal::JobBytes => 1,
+            Refusal::Counts => 2,
+            Refusal::MatrixEntry => 3,
+            Refusal::FloatRange => 4,
+            Refusal::SiteImage => 5,
+            Refusal::Coordinates => 6,
+            Refusal::Determinant => 7,
+            Refusal::Diagonalisation => 8,
+            Refusal::ListedSites => 9,
+            Refusal::Buffer => 10,
+            Refusal::TargetRotation => 11,
+            Refusal::Lattice => 12,
+            Refusal::OrbitFit => 13,
+        }
+    }
 }
 
-// What the whole call says: accepted, with the numbers of listed sites and of orbits, or refused with one number.
+// What a call says whose answer stands in lent lists: accepted, or refused.
+pub type Verdict = Result<(), Refusal>;
+
+// What the whole call says of an accepted answer: the numbers of its listed sites and of its orbits.
 #[derive(Clone, Copy)]
-pub enum Standardized {
-    Accepted(usize, usize),
-    Refused(usize),
+pub struct AnswerCounts {
+    pub sites: usize,
+    pub orbits: usize,
 }
 
 // How many of each command a job has.
@@ -103,20 +162,6 @@ pub struct JobCounts {
     pub targets: usize,
     pub rotations: usize,
     pub candidates: usize,
-}
-
-// What the call that reads a job's bytes says: how many of each there are, or refused with one number.
-#[derive(Clone, Copy)]
-pub enum JobRead {
-    Read(JobCounts),
-    Refused(usize),
-}
-
-// What the image call of a permutation says: the image, or refused with one number.
-#[derive(Clone, Copy)]
-pub enum Image {
-    Site(PrimSite),
-    Refused(usize),
 }
 
 // How many passes each of the three stages of a diagonalisation has.

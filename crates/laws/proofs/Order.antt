@@ -2,9 +2,9 @@
 use Rattle.std.specs.Prelude.{ℕ, ◌≡◌, List, T}
 use Rattle.std.proofs.Math.Path.{refl, ap}
 use Rattle.std.proofs.Common.{sym}
-use Rattle.definitions.specs.Refusal.{Condition, Applies, NoneOf, precedence, Past, Outcome, accepted, refused, Returns, Checked}
-use Rattle.definitions.specs.declared.Verdict.{Verdict}
-use Rattle.definitions.specs.declared.Verdict.TheVariants.{Accepted, Refused}
+use Rattle.definitions.specs.Refusal.{Condition, Applies, NoneOf, precedence, Past, Outcome, accepted, refused, Returns, Checked, number, Verdict}
+use Rattle.std.specs.Prelude.{Ok, Err}
+use Rattle.laws.specs.Verdicts.{number_one}
 use Rattle.laws.specs.Order.{none_of, numbered, applies_numbered, first_unique}
 
 module _ (cs : List Condition) (t : T (numbered cs)) where
@@ -19,10 +19,10 @@ module _ (cs : List Condition) (t : T (numbered cs)) where
   -- no two verdicts are right
   pub checked_unique : (v w : Verdict) → Checked cs v → Checked cs w → v ≡ w
   unfolding Checked Returns
-  checked_unique Accepted Accepted a b = refl
-  checked_unique Accepted (Refused k) a b = absurd (not_all k b.0 a.0)
-  checked_unique (Refused k) Accepted a b = absurd (not_all k a.0 b.0)
-  checked_unique (Refused k) (Refused l) a b = ap Refused (one_number k l a.0 a.1 b.0 b.1)
+  checked_unique (Ok u) (Ok w) a b = refl
+  checked_unique (Ok u) (Err r) a b = absurd (not_all (number r) b.0 a.0)
+  checked_unique (Err r) (Ok u) a b = absurd (not_all (number r) a.0 b.0)
+  checked_unique (Err r) (Err s) a b = ap Err (number_one r s (one_number (number r) (number s) a.0 a.1 b.0 b.1))
 
   -- past the numbers before k, which applies: the call is refused with k, whatever comes behind it
   pub refused_first : {A : Type 0} (Is : A → Type 0) (k : ℕ) → Applies cs k → Past k cs → (o : Outcome A) → Returns cs Is o → o ≡ refused k

@@ -5,9 +5,8 @@ use Rattle.std.proofs.Math.Bool.{true, false}
 use Rattle.std.proofs.Math.Logic.{inr, ⊎_elim}
 use Rattle.std.proofs.Math.Dec.{eqb_refl}
 use Rattle.definitions.specs.Lists.{any}
-use Rattle.definitions.specs.Refusal.{Condition, Applies, NoneOf, upto, precedence, Past, Returns, Checked}
-use Rattle.definitions.specs.declared.Verdict.{Verdict}
-use Rattle.definitions.specs.declared.Verdict.TheVariants.{Accepted, Refused}
+use Rattle.definitions.specs.Refusal.{Condition, Applies, NoneOf, upto, precedence, Past, Returns, Checked, number, Verdict}
+use Rattle.std.specs.Prelude.{Ok, Err}
 use Rattle.laws.specs.Tests.{and_left, and_right}
 
 abbrev pub among : List ℕ → ℕ → Bool
@@ -99,10 +98,10 @@ pub checked_without :
     (cs : List Condition) (d : Condition) (v : Verdict) → (Past d.number (cs ++ (d ∷ [])) → d.holds → ⊥) →
     Checked (cs ++ (d ∷ [])) v → Checked cs v
 unfolding Checked Returns
-checked_without cs d Accepted never e = (none_over cs (cs ++ (d ∷ [])) (applies_more cs d) precedence e.0, tt)
-checked_without cs d (Refused k) never e = (
-  ⊎_elim (λ a. a) (λ x. absurd (never (subst (λ n. Past n (cs ++ (d ∷ []))) (sym x.0) e.1) x.1)) (applies_last cs d k e.0),
-  none_over cs (cs ++ (d ∷ [])) (applies_more cs d) (upto k precedence) e.1,
+checked_without cs d (Ok u) never e = (none_over cs (cs ++ (d ∷ [])) (applies_more cs d) precedence e.0, tt)
+checked_without cs d (Err r) never e = (
+  ⊎_elim (λ a. a) (λ x. absurd (never (subst (λ n. Past n (cs ++ (d ∷ []))) (sym x.0) e.1) x.1)) (applies_last cs d (number r) e.0),
+  none_over cs (cs ++ (d ∷ [])) (applies_more cs d) (upto (number r) precedence) e.1,
 )
 
 -- ---- every condition has a number of the order
@@ -165,7 +164,7 @@ fail_all (c ∷ cs) f t = (
 )
 
 -- Used as `past cs tt e` under `unfolding numbered`.
-pub past : (cs : List Condition) → T (numbered cs) → Checked cs Accepted → FailAll cs
+pub past : (cs : List Condition) → T (numbered cs) → Checked cs (Ok tt) → FailAll cs
 unfolding Checked Returns
 past cs t e = fail_all cs (λ k m a. none_of cs precedence k m e.0 a) t
 

@@ -9,8 +9,24 @@ use mathlib.Core.List.{List, [], ◌∷◌}
 use Rattle.std.proofs.Math.Option.{Option, none, some}
 use Rattle.std.proofs.Math.Dec.{T, eqb_refl}
 use Rattle.definitions.specs.Refusal.{Condition, Checked, Applies, NoneOf, upto, precedence, Outcome, accepted, refused, Returns, Answered, Promised}
-use Rattle.definitions.specs.declared.Verdict.{Verdict}
-use Rattle.definitions.specs.declared.Verdict.TheVariants.{Accepted, Refused}
+use Rattle.definitions.specs.Refusal.{number as number_of, outcome_of, TellsOf, Verdict}
+use Rattle.std.specs.Prelude.{get_or, ◌-◌, Result, Ok, Err, IsErrAnd}
+use Rattle.definitions.specs.declared.Refusal.{Refusal}
+use Rattle.definitions.specs.declared.Refusal.TheVariants.{
+  JobBytes,
+  Counts,
+  MatrixEntry,
+  FloatRange,
+  SiteImage,
+  Coordinates,
+  Determinant,
+  Diagonalisation,
+  ListedSites,
+  Buffer,
+  TargetRotation,
+  Lattice,
+  OrbitFit,
+}
 
 -- what was found of a condition
 pub data Tested (P : Type 0) : Type 0 where
@@ -87,20 +103,20 @@ unfolding applies step NoneOf
 scan cs ts [] = clear tt
 scan cs ts (k ∷ ks) = step cs k ks (applies cs ts k) (λ u. scan cs ts ks)
 
-verdict : {cs : List Condition} {ks : List ℕ} → Found cs ks → Option Verdict
-verdict (clear n) = some Accepted
-verdict (first k a n) = some (Refused k)
+verdict : {cs : List Condition} {ks : List ℕ} → Found cs ks → Option (Outcome (Unit {0}))
+verdict (clear n) = some (accepted tt)
+verdict (first k a n) = some (refused k)
 verdict unknown = none
 
 -- the verdict of the tests, where they settle it
-unfoldable pub verdict_of : (cs : List Condition) → TestedAll cs → Option Verdict
+unfoldable pub verdict_of : (cs : List Condition) → TestedAll cs → Option (Outcome (Unit {0}))
 unfolding scan verdict precedence
 verdict_of cs ts = verdict (scan cs ts precedence)
 
 module _ (cs : List Condition) where
-  Right : Option Verdict → Type 0
+  Right : Option (Outcome (Unit {0})) → Type 0
   Right none = Unit {0}
-  Right (some v) = Checked cs v
+  Right (some o) = Returns cs (λ (u : Unit {0}). Unit {0}) o
 
   right : (f : Found cs precedence) → Right (verdict f)
   unfolding verdict Right Checked Returns
@@ -109,28 +125,126 @@ module _ (cs : List Condition) where
   right unknown = tt
 
   -- A verdict that the tests settle is right: `checked cs (t₁, (t₂, (t₃, tt))) v refl` under `unfolding verdict_of`.
-  pub checked : (ts : TestedAll cs) (v : Verdict) → verdict_of cs ts ≡ some v → Checked cs v
-  unfolding verdict_of Right
+  pub checked : (ts : TestedAll cs) (v : Verdict) → verdict_of cs ts ≡ some (outcome_of tt v) → Checked cs v
+  unfolding verdict_of Right Checked
   checked ts v e = subst Right e (right (scan cs ts precedence))
 
 -- ---- a verdict is one
 
 -- 0 for accepted, which is no refusal's number
 abbrev pub number : Verdict → ℕ
-number Accepted = 0
-number (Refused k) = k
+number (Ok u) = 0
+number (Err r) = number_of r
 
 pub same_number : {v a b : Verdict} → v ≡ a → v ≡ b → number a ≡ number b
 same_number e f = ap number (sym e ∙ f)
 
+-- ---- a number is one refusal's
+
+refusal_of : ℕ → Refusal
+refusal_of n =
+    get_or (
+    JobBytes
+    ∷ Counts
+    ∷ MatrixEntry
+    ∷ FloatRange
+    ∷ SiteImage
+    ∷ Coordinates
+    ∷ Determinant
+    ∷ Diagonalisation
+    ∷ ListedSites
+    ∷ Buffer
+    ∷ TargetRotation
+    ∷ Lattice
+    ∷ OrbitFit
+    ∷ []
+    ) (n - 1) JobBytes
+
+number_back : (r : Refusal) → refusal_of (number_of r) ≡ r
+unfolding refusal_of
+number_back JobBytes = refl
+number_back Counts = refl
+number_back MatrixEntry = refl
+number_back FloatRange = refl
+number_back SiteImage = refl
+number_back Coordinates = refl
+number_back Determinant = refl
+number_back Diagonalisation = refl
+number_back ListedSites = refl
+number_back Buffer = refl
+number_back TargetRotation = refl
+number_back Lattice = refl
+number_back OrbitFit = refl
+
+pub number_one : (r s : Refusal) → number_of r ≡ number_of s → r ≡ s
+number_one r s e = sym (number_back r) ∙ ap refusal_of e ∙ number_back s
+
+-- ---- a refusal passed on by `?`
+
+-- what a promise says of the refusal that was passed on, it says of the result
+pub passed_on : {A : Type 0} (P : Result A Refusal → Type 0) (k : Refusal) (r : Result A Refusal) → IsErrAnd r (λ j. j ≡ k) → P (Err k) → P r
+passed_on P k (Ok a) e p = absurd e
+passed_on P k (Err j) e p = subst (λ i. P (Err i)) (sym e) p
+
+-- ---- what a result tells of an outcome
+
+value_or : {A : Type 0} → A → Outcome A → A
+value_or d (accepted a) = a
+value_or d (refused k) = d
+
+number_or : {A : Type 0} → ℕ → Outcome A → ℕ
+number_or d (accepted a) = d
+number_or d (refused k) = k
+
+IsRefused : {A : Type 0} → Outcome A → Type 0
+IsRefused (accepted a) = ⊥
+IsRefused (refused k) = Unit {0}
+
+-- of an accepted answer what g says of it
+pub tells_answer : {A B : Type 0} (g : A → B) (a : A) (r : Result B Refusal) → TellsOf g (accepted a) r → r ≡ Ok (g a)
+unfolding value_or IsRefused
+tells_answer g a (Ok b) e = ap Ok (sym (ap (value_or b) e))
+tells_answer g a (Err s) e = absurd (subst IsRefused (sym e) tt)
+
+-- of a refusal its number
+pub tells_number : {A B : Type 0} (g : A → B) (k : ℕ) (r : Result B Refusal) → TellsOf g (refused k) r → (s : Refusal) × (r ≡ Err s) × (number_of s ≡ k)
+unfolding number_or IsRefused
+tells_number g k (Ok b) e = absurd (subst IsRefused e tt)
+tells_number g k (Err s) e = (s, refl, sym (ap (number_or k) e))
+
+-- a result has one value, or one error
+ok_or : {A B : Type 0} → A → Result A B → A
+ok_or d (Ok a) = a
+ok_or d (Err b) = d
+
+err_or : {A B : Type 0} → B → Result A B → B
+err_or d (Ok a) = d
+err_or d (Err b) = b
+
+pub ok_once : {A B : Type 0} (r : Result A B) (a b : A) → r ≡ Ok a → r ≡ Ok b → a ≡ b
+unfolding ok_or
+ok_once r a b e f = ap (ok_or a) (sym e ∙ f)
+
+pub err_once : {A B : Type 0} (r : Result A B) (a b : B) → r ≡ Err a → r ≡ Err b → a ≡ b
+unfolding err_or
+err_once r a b e f = ap (err_or a) (sym e ∙ f)
+
+-- no result is both
+pub not_both : {A B : Type 0} (r : Result A B) (a : A) (b : B) → r ≡ Ok a → r ≡ Err b → ⊥
+not_both r a b e f = subst Is (sym e ∙ f) tt
+  where
+    Is : {A B : Type 0} → Result A B → Type 0
+    Is (Ok a) = Unit {0}
+    Is (Err b) = ⊥
+
 -- ---- a verdict with an answer
 
 module _ {A : Type 0} (cs : List Condition) (Answer : A → Type 0) where
-  pub refused_with_lem : (k : ℕ) → Checked cs (Refused k) → Returns cs Answer (refused k)
+  pub refused_with_lem : (r : Refusal) → Checked cs (Err r) → Returns cs Answer (refused (number_of r))
   unfolding Checked Returns
-  refused_with_lem k e = e
+  refused_with_lem r e = e
 
-  pub accepted_with : (a : A) → Checked cs Accepted → Answer a → Returns cs Answer (accepted a)
+  pub accepted_with : (a : A) → Checked cs (Ok tt) → Answer a → Returns cs Answer (accepted a)
   unfolding Checked Returns
   accepted_with a e h = (e.0, h)
 
@@ -143,11 +257,11 @@ module _ {A : Type 0} (cs : List Condition) (Is Holds : A → Type 0) (Zero : Ty
   answered_returns (refused k) h = h.0
 
   -- how its promise is kept
-  pub promise_accepted : (a : A) → Checked cs Accepted → Is a → Holds a → Promised cs Is Holds Zero Accepted
+  pub promise_accepted : (a : A) → Checked cs (Ok tt) → Is a → Holds a → Promised cs Is Holds Zero (Ok tt)
   promise_accepted a e i h = (accepted a, (accepted_with cs Is a e i, h), refl)
 
-  pub promise_refused : (k : ℕ) → Checked cs (Refused k) → Zero → Promised cs Is Holds Zero (Refused k)
-  promise_refused k e z = (refused k, (refused_with_lem cs Is k e, z), refl)
+  pub promise_refused : (r : Refusal) → Checked cs (Err r) → Zero → Promised cs Is Holds Zero (Err r)
+  promise_refused r e z = (refused (number_of r), (refused_with_lem cs Is r e, z), refl)
 
 -- ---- test by test: a call's conditions in the order of its tests
 
@@ -188,8 +302,8 @@ found_none (c ∷ cs) p = (fails p.0, found_none cs p.1)
 
 -- The n-th test is the first that holds: `refuse cs n p h v refl` under `unfolding verdict_of found_at_lem`; none does:
 -- `accept cs p refl`.
-pub refuse : (cs : List Condition) (n : ℕ) (p : Passed cs n) (h : HoldsAt cs n) (v : Verdict) → verdict_of cs (found_at_lem cs n p h) ≡ some v → Checked cs v
+pub refuse : (cs : List Condition) (n : ℕ) (p : Passed cs n) (h : HoldsAt cs n) (v : Verdict) → verdict_of cs (found_at_lem cs n p h) ≡ some (outcome_of tt v) → Checked cs v
 refuse cs n p h v e = checked cs (found_at_lem cs n p h) v e
 
-pub accept : (cs : List Condition) (p : Passed cs (length cs)) → verdict_of cs (found_none cs p) ≡ some Accepted → Checked cs Accepted
-accept cs p e = checked cs (found_none cs p) Accepted e
+pub accept : (cs : List Condition) (p : Passed cs (length cs)) → verdict_of cs (found_none cs p) ≡ some (accepted tt) → Checked cs (Ok tt)
+accept cs p e = checked cs (found_none cs p) (Ok tt) e
