@@ -10,7 +10,7 @@ ghost use Rattle.definitions.specs.Calls.{IdentityPromise, ImagePromise, Inverse
 ghost use Rattle.definitions.specs.Permutation.{is_permutation, permutation_at, inverse_image, after};
 
 use definitions::limits::MOST_SITES;
-use definitions::{Image, PrimSite, Verdict, refusal};
+use definitions::{PrimSite, Refusal, Verdict};
 use lent::clear;
 
 // Whether p lists each of its own places once, entry by entry: a table says which images were met.
@@ -94,48 +94,48 @@ fn identity_verdict(n: usize, room: usize) -> Verdict
     ensures { Checked (identity_conditions n room) result }
 {
     if MOST_SITES < n {
-        return Verdict::Refused(refusal::COUNTS);
+        return Err(Refusal::Counts);
     }
     if room < n {
-        return Verdict::Refused(refusal::BUFFER);
+        return Err(Refusal::Buffer);
     }
-    Verdict::Accepted
+    Ok(())
 }
 
 fn inverse_verdict(p: &[u8], room: usize) -> Verdict
     ensures { Checked (inverse_conditions p.now room) result }
 {
     if MOST_SITES < p.len() {
-        return Verdict::Refused(refusal::COUNTS);
+        return Err(Refusal::Counts);
     }
     if !is_permutation(p) {
-        return Verdict::Refused(refusal::SITE_IMAGE);
+        return Err(Refusal::SiteImage);
     }
     if room < p.len() {
-        return Verdict::Refused(refusal::BUFFER);
+        return Err(Refusal::Buffer);
     }
-    Verdict::Accepted
+    Ok(())
 }
 
 fn product_verdict(p: &[u8], q: &[u8], room: usize) -> Verdict
     ensures { Checked (product_conditions p.now q.now room) result }
 {
     if MOST_SITES < p.len() {
-        return Verdict::Refused(refusal::COUNTS);
+        return Err(Refusal::Counts);
     }
     if q.len() != p.len() {
-        return Verdict::Refused(refusal::COUNTS);
+        return Err(Refusal::Counts);
     }
     if !is_permutation(p) {
-        return Verdict::Refused(refusal::SITE_IMAGE);
+        return Err(Refusal::SiteImage);
     }
     if !is_permutation(q) {
-        return Verdict::Refused(refusal::SITE_IMAGE);
+        return Err(Refusal::SiteImage);
     }
     if room < p.len() {
-        return Verdict::Refused(refusal::BUFFER);
+        return Err(Refusal::Buffer);
     }
-    Verdict::Accepted
+    Ok(())
 }
 
 // ---- the answers, written to the front of a lent list
@@ -180,11 +180,11 @@ pub fn identity(n: usize, out: &mut [u8]) -> Verdict
 {
     let v = identity_verdict(n, out.len());
     match v {
-        Verdict::Accepted => {
+        Ok(()) => {
             put_identity(n, out);
             clear(out, n);
         }
-        Verdict::Refused(_) => {
+        Err(_) => {
             clear(out, 0);
         }
     }
@@ -192,20 +192,20 @@ pub fn identity(n: usize, out: &mut [u8]) -> Verdict
 }
 
 // The image of the site i.
-pub fn apply(p: &[u8], i: PrimSite) -> Image
+pub fn apply(p: &[u8], i: PrimSite) -> Result<PrimSite, Refusal>
     ensures { ImagePromise p.now i.0 result }
 {
     if MOST_SITES < p.len() {
-        return Image::Refused(refusal::COUNTS);
+        return Err(Refusal::Counts);
     }
     if !is_permutation(p) {
-        return Image::Refused(refusal::SITE_IMAGE);
+        return Err(Refusal::SiteImage);
     }
     let at = i.0;
     if p.len() <= at {
-        return Image::Refused(refusal::SITE_IMAGE);
+        return Err(Refusal::SiteImage);
     }
-    Image::Site(PrimSite(usize::from(p[at])))
+    Ok(PrimSite(usize::from(p[at])))
 }
 
 // The inverse of p.
@@ -214,11 +214,11 @@ pub fn inverse(p: &[u8], out: &mut [u8]) -> Verdict
 {
     let v = inverse_verdict(p, out.len());
     match v {
-        Verdict::Accepted => {
+        Ok(()) => {
             put_inverse(p, out);
             clear(out, p.len());
         }
-        Verdict::Refused(_) => {
+        Err(_) => {
             clear(out, 0);
         }
     }
@@ -231,11 +231,11 @@ pub fn product(p: &[u8], q: &[u8], out: &mut [u8]) -> Verdict
 {
     let v = product_verdict(p, q, out.len());
     match v {
-        Verdict::Accepted => {
+        Ok(()) => {
             put_product(p, q, out);
             clear(out, q.len());
         }
-        Verdict::Refused(_) => {
+        Err(_) => {
             clear(out, 0);
         }
     }

@@ -4,10 +4,10 @@
 ghost use Rattle.std.specs.Prelude.{◌≡◌, not};
 ghost use Rattle.definitions.specs.Lists.{all};
 ghost use Rattle.definitions.specs.Limits as Limits;
-ghost use Rattle.definitions.specs.Limits.{in_range, position_limit, lattice_limit, within, lattice_within};
+ghost use Rattle.definitions.specs.Limits.{in_range, lattice_within};
 ghost use Rattle.definitions.specs.Limits.{position_within, good_symprec, not_some, not_unimodular, bad_copies};
 ghost use Rattle.definitions.specs.Lent.{cells_within};
-ghost use Rattle.checks.specs.Entries.{small_entry};
+ghost use Rattle.checks.specs.Entries.{small_entry, at_most};
 
 use definitions::limits::{LATTICE_LIMIT, MOST_COPIES, MOST_OPERATIONS, POSITION_LIMIT};
 use definitions::{Basis, Cells, Linear, Position, Rotation};
@@ -25,7 +25,7 @@ fn row_in_range(v: [i8; 3]) -> bool
     v.iter().all(|e| entry_in_range(*e))
 }
 
-// every entry from -31 to 31
+// every entry from -31 to 31; math_real's `all_finite` is the same call of the library over another test
 pub fn in_range(m: Rotation) -> bool
     ensures { result ≡ in_range m }
 {
@@ -39,54 +39,41 @@ pub fn all_in_range(ms: &[Rotation]) -> bool
 }
 
 // A NaN is not at most any number, and an infinity at most no finite one.
-pub fn within_position(x: f64) -> bool
-    ensures { result ≡ within position_limit x }
+fn within(x: f64, limit: f64) -> bool
+    ensures { result ≡ at_most limit x }
 {
-    x.abs() <= POSITION_LIMIT
+    x.abs() <= limit
 }
 
-pub fn within_lattice(x: f64) -> bool
-    ensures { result ≡ within lattice_limit x }
+fn all_within(v: [f64; 3], limit: f64) -> bool
+    ensures { result ≡ all (at_most limit) v }
 {
-    x.abs() <= LATTICE_LIMIT
-}
-
-fn row_within(v: [f64; 3]) -> bool
-    ensures { result ≡ all (within lattice_limit) v }
-{
-    v.iter().all(|x| within_lattice(*x))
+    v.iter().all(|x| within(*x, limit))
 }
 
 pub fn lattice_within(l: Basis) -> bool
     ensures { result ≡ lattice_within l }
 {
-    l.iter().all(|row| row_within(*row))
+    l.iter().all(|row| all_within(*row, LATTICE_LIMIT))
 }
 
 pub fn position_within(p: Position) -> bool
     ensures { result ≡ position_within p }
 {
-    let Position { x, y, z } = p;
-    cells_within([x, y, z])
-}
-
-fn cells_within(v: Cells) -> bool
-    ensures { result ≡ cells_within v }
-{
-    v.iter().all(|x| within_position(*x))
+    all_within([p.x, p.y, p.z], POSITION_LIMIT)
 }
 
 pub fn all_cells_within(ps: &[Cells]) -> bool
     ensures { result ≡ all cells_within ps.now }
 {
-    ps.iter().all(|p| cells_within(*p))
+    ps.iter().all(|p| position_within(Position::from(*p)))
 }
 
 // above 0, and not over 1000
 pub fn good_symprec(s: f64) -> bool
     ensures { result ≡ good_symprec s }
 {
-    0.0 < s && within_position(s)
+    0.0 < s && within(s, POSITION_LIMIT)
 }
 
 // |det c|: the number of copies of a site

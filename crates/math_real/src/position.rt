@@ -2,11 +2,10 @@
 ghost use Rattle.std.specs.Prelude.{◌≡◌};
 ghost use Rattle.definitions.specs.Real.{add_p, sub_p, apply_f, map_p};
 ghost use Rattle.definitions.specs.Cell.{reduced};
-ghost use Rattle.definitions.specs.Lent.{position_from, cells_of};
 ghost use Rattle.std.specs.Float.{binary64};
 ghost use Rattle.std.specs.Float.Ieee.{div};
 
-use definitions::{Basis, Cells, Position};
+use definitions::{Basis, Position};
 
 pub fn add(p: Position, q: Position) -> Position
     ensures { result ≡ add_p p q }
@@ -62,24 +61,6 @@ pub fn remainder(p: Position) -> Position
         y: modulo_one(p.y),
         z: modulo_one(p.z),
     }
-}
-
-// ---- a position as a lent entry of three floats
-
-pub fn position_of(v: Cells) -> Position
-    ensures { result ≡ position_from v }
-{
-    Position {
-        x: v[0],
-        y: v[1],
-        z: v[2],
-    }
-}
-
-pub fn cells_of(p: Position) -> Cells
-    ensures { result ≡ cells_of p }
-{
-    [p.x, p.y, p.z]
 }
 
 // each coordinate over `by`

@@ -19,7 +19,7 @@ ghost use Rattle.definitions.specs.Limits.{small};
 ghost use Rattle.math_snf.specs.declared.Grade.TheVariants.{Strayed};
 
 use checks::in_range;
-use definitions::{Linear, Passes, SnfMatrix, Stages, Verdict, refusal};
+use definitions::{Linear, Passes, Refusal, SnfMatrix, Stages, Verdict};
 use line::{FIRST, Line, SECOND, THIRD};
 use math_matrix::widened;
 
@@ -395,16 +395,16 @@ pub fn snf(m: Linear, d: &mut SnfMatrix, l: &mut SnfMatrix, r: &mut SnfMatrix) -
 {
     if !in_range(m) {
         NONE.write(d, l, r);
-        return Verdict::Refused(refusal::MATRIX_ENTRY);
+        return Err(Refusal::MatrixEntry);
     }
     match Factors::run(m) {
         Ok((t, _)) => {
             t.write(d, l, r);
-            Verdict::Accepted
+            Ok(())
         }
         Err(_) => {
             NONE.write(d, l, r);
-            Verdict::Refused(refusal::DIAGONALISATION)
+            Err(Refusal::Diagonalisation)
         }
     }
 }

@@ -4,8 +4,9 @@ use Rattle.std.proofs.Math.Path.{refl}
 use Rattle.std.proofs.Common.{sym, ap, ◌∙◌, arith}
 use Rattle.std.proofs.Math.Bool.{not}
 use Rattle.std.proofs.Math.Option.{none, some, some-injective}
-use Rattle.definitions.specs.declared.Verdict.{Verdict}
-use Rattle.definitions.specs.declared.Verdict.TheVariants.{Accepted, Refused}
+use Rattle.definitions.specs.Refusal.{Verdict}
+use Rattle.std.specs.Prelude.{Err, Ok}
+use Rattle.definitions.specs.declared.Refusal.TheVariants.{MatrixEntry, Diagonalisation}
 use Rattle.definitions.specs.declared.Passes.{Passes}
 use Rattle.definitions.specs.declared.Passes.TheVariants.{Counted, Left, Outside}
 use Rattle.definitions.specs.Lists.{all}
@@ -22,19 +23,19 @@ use Rattle.math_snf_laws.specs.Runs.{every}
 
 -- ---- the verdict on a matrix, by its run
 
-pub outside_refused : (m : Matrix) → in_range m ≡ false → Checked (snf_conditions m) (Refused 3)
+pub outside_refused : (m : Matrix) → in_range m ≡ false → Checked (snf_conditions m) (Err MatrixEntry)
 unfolding verdict_of
-outside_refused m e = checked (snf_conditions m) (is_true (ap not e), (untested, tt)) (Refused 3) refl
+outside_refused m e = checked (snf_conditions m) (is_true (ap not e), (untested, tt)) (Err MatrixEntry) refl
 
 module _ {m : Matrix} (r : Run m) (e : in_range m ≡ true) where
-  pub leaving_refused : all small (all_assigned r) ≡ false → Checked (snf_conditions m) (Refused 8)
+  pub leaving_refused : all small (all_assigned r) ≡ false → Checked (snf_conditions m) (Err Diagonalisation)
   unfolding verdict_of
-  leaving_refused f = checked (snf_conditions m) (is_false (ap not e), (holds (r, rw f tt), tt)) (Refused 8) refl
+  leaving_refused f = checked (snf_conditions m) (is_false (ap not e), (holds (r, rw f tt), tt)) (Err Diagonalisation) refl
 
-  pub staying_accepted : all small (all_assigned r) ≡ true → Checked (snf_conditions m) Accepted
+  pub staying_accepted : all small (all_assigned r) ≡ true → Checked (snf_conditions m) (Ok tt)
   unfolding verdict_of
   staying_accepted f =
-      checked (snf_conditions m) (is_false (ap not e), (fails (stays r (rw f tt)), tt)) Accepted refl
+      checked (snf_conditions m) (is_false (ap not e), (fails (stays r (rw f tt)), tt)) (Ok tt) refl
 
 -- ---- the one answer
 
@@ -58,19 +59,19 @@ same-passes : {m : Matrix} (r r' : Run m) → (passes_of r ≡ passes_of r') × 
 same-passes r r' = let s = same-run r r' in rw (s.first.0, s.second.0, s.third.0) (refl, refl)
 
 module _ {m : Matrix} (r : Run m) where
-  told_accepted : (p : Passes) → PassesPromise m p → (passes_told p).0 ≡ Accepted → p ≡ Counted (passes_of r)
+  told_accepted : (p : Passes) → PassesPromise m p → (passes_told p).0 ≡ (Ok tt) → p ≡ Counted (passes_of r)
   told_accepted (Counted s) h e =
       ap Counted (some-injective s (passes_of h.1.0) h.1.1 ∙ (same-passes h.1.0 r).0)
   told_accepted (Left s) h e = absurd (omega (arith, same_number refl e))
   told_accepted Outside h e = absurd (omega (arith, same_number refl e))
 
-  told_8 : (p : Passes) → PassesPromise m p → (passes_told p).0 ≡ Refused 8 → p ≡ Left (begun_of r)
+  told_8 : (p : Passes) → PassesPromise m p → (passes_told p).0 ≡ Err Diagonalisation → p ≡ Left (begun_of r)
   told_8 (Counted s) h e = absurd (omega (arith, same_number refl e))
   told_8 (Left s) h e =
       ap Left (some-injective s (begun_of h.1.0) h.1.1 ∙ (same-passes h.1.0 r).1)
   told_8 Outside h e = absurd (omega (arith, same_number refl e))
 
-  told_3 : (p : Passes) → (passes_told p).0 ≡ Refused 3 → p ≡ Outside
+  told_3 : (p : Passes) → (passes_told p).0 ≡ Err MatrixEntry → p ≡ Outside
   told_3 (Counted s) e = absurd (omega (arith, same_number refl e))
   told_3 (Left s) e = absurd (omega (arith, same_number refl e))
   told_3 Outside e = refl
@@ -86,9 +87,9 @@ module _ {m : Matrix} (r : Run m) where
       by :
           (a : Bool) → in_range m ≡ a → (b : Bool) → all small (all_assigned r) ≡ b →
           p ≡ cond a (cond b (Counted (passes_of r)) (Left (begun_of r))) Outside
-      by false e b f = told_3 p (is (Refused 3) (outside_refused m e))
-      by true e false f = told_8 p h (is (Refused 8) (leaving_refused r e f))
-      by true e true f = told_accepted p h (is Accepted (staying_accepted r e f))
+      by false e b f = told_3 p (is (Err MatrixEntry) (outside_refused m e))
+      by true e false f = told_8 p h (is (Err Diagonalisation) (leaving_refused r e f))
+      by true e true f = told_accepted p h (is (Ok tt) (staying_accepted r e f))
 
 -- the same matrix, the same answer
 pub one_answer : (m : Matrix) (p q : Passes) → PassesPromise m p → PassesPromise m q → p ≡ q
@@ -139,7 +140,7 @@ module _ (m : Matrix) (p : Passes) (h : PassesPromise m p) where
       by true false = refl
 
   -- 3 exactly where an entry is outside -31..31: the number alone
-  pub outside_alone : (passes_told p ≡ (Refused 3, none)) ↔ (in_range m ≡ false)
+  pub outside_alone : (passes_told p ≡ (Err MatrixEntry, none)) ↔ (in_range m ≡ false)
   outside_alone = (
     λ e. by (in_range m) (all small (all_assigned (every m))) (sym (number_told (every m)) ∙ ap (λ o. number o.0) e),
     λ e. ap passes_told (is_outside e),
@@ -151,7 +152,7 @@ module _ (m : Matrix) (p : Passes) (h : PassesPromise m p) where
       by true false e = absurd (omega (arith, e))
 
   -- 8 exactly where 3 does not apply and an assigned entry leaves -511..511
-  pub eight : ((passes_told p).0 ≡ Refused 8) ↔ ((in_range m ≡ true) × Leaves m)
+  pub eight : ((passes_told p).0 ≡ Err Diagonalisation) ↔ ((in_range m ≡ true) × Leaves m)
   eight = (
     λ e.
         by (in_range m) refl (all small (all_assigned (every m))) refl (sym (number_told (every m)) ∙ ap number e),
@@ -168,9 +169,9 @@ module _ (m : Matrix) (p : Passes) (h : PassesPromise m p) where
   -- "This holds of every matrix in range."
   module _ (r : Run m) (e : in_range m ≡ true) where
     -- "The count reported for each of the three stages equals the passes of the definition"
-    pub counted : (Leaves m → ⊥) → passes_told p ≡ (Accepted, some (passes_of r))
+    pub counted : (Leaves m → ⊥) → passes_told p ≡ ((Ok tt), some (passes_of r))
     counted n = ap passes_told (is_counted r e (stays_by r n))
 
     -- "where 8 applies, it answers 8 together with the passes begun up to there, stages not reached counting 0"
-    pub left_with : Leaves m → passes_told p ≡ (Refused 8, some (begun_of r))
+    pub left_with : Leaves m → passes_told p ≡ (Err Diagonalisation, some (begun_of r))
     left_with l = ap passes_told (is_left r e (leaves_by r l))

@@ -13,19 +13,19 @@ use Rattle.base_permutation.proofs.inverse.Goals as goal
 pub put_inverse-requires : goal.put_inverse-requires
 put_inverse-requires c =
     let a = c.args in
-    inverse_facts a.p.now (length a.out.now) (rw c.in-Accepted.is at c.inverse_verdict-v.ensures)
+    inverse_facts a.p.now (length a.out.now) (rw c.in-Ok.is at c.inverse_verdict-v.ensures)
 
-pub returns-in-Accepted : goal.returns-in-Accepted
-returns-in-Accepted c =
+pub returns-in-Ok : goal.returns-in-Ok
+returns-in-Ok c =
     let a = c.args in
     let v = c.inverse_verdict-v in
-    let told = c.in-Accepted.is in
+    let told = c.in-Ok.is in
     let room = (inverse_facts a.p.now (length a.out.now) (rw told at v.ensures)).2 in (
       v.ensures,
       rw told
           (padded_by 0 (map (inverse_image a.p.now) (up_to (length a.p.now))) a.out.now c.clear.new.out c.put_inverse.new.out (length a.p.now) (length-map (up_to (length a.p.now)) (inverse_image a.p.now) ∙ length-up_to (length a.p.now)) room c.put_inverse.ensures c.clear.ensures),
     )
 
-pub returns-in-Refused : goal.returns-in-Refused
-returns-in-Refused c =
-    (c.inverse_verdict-v.ensures, rw c.in-Refused.is c.clear-in-Refused.ensures)
+pub returns-in-Err : goal.returns-in-Err
+returns-in-Err c =
+    (c.inverse_verdict-v.ensures, rw c.in-Err.is c.clear-in-Err.ensures)

@@ -1,5 +1,5 @@
 -- One more place is zero, and those behind it are as they were.
-use Rattle.std.proofs.Common.{ℕ, zero, suc, ◌+◌, ◌<◌, ◌≡◌, refl, ap, List, [], ◌∷◌, ◌++◌, length, set, drop, replicate, add-one, arith, le_of_suc-le-suc, not-suc-le-zero}
+use Rattle.std.proofs.Common.{ℕ, zero, suc, ◌<◌, ◌≡◌, refl, ap, List, [], ◌∷◌, ◌++◌, length, set, drop, replicate, add-one, arith, le_of_suc-le-suc, not-suc-le-zero}
 use Rattle.lent.proofs.clear.Goals as goal
 
 one_more : {A : Type 0} (z : A) (k : ℕ) (d : List A) → k < length d → set (replicate k z ++ drop k d) k z ≡ replicate (suc k) z ++ drop (suc k) d
