@@ -7,8 +7,8 @@ use mathlib.Core.List.{List, [], ◌∷◌}
 use lib.Dec.{ltb, ltb→lt}
 use lib.ListN.{length, get_or}
 use borrow.Author.Tests.{ltb-false, eqb-true, not-false}
-use Rattle.definitions.specs.declared.Verdict.{Verdict}
-use Rattle.definitions.specs.declared.Verdict.TheVariants.{Accepted, Refused}
+use Rattle.definitions.specs.Refusal.{Verdict}
+use Rattle.std.specs.Prelude.{Err, Ok}
 use Rattle.definitions.specs.Lent.{bad_permutation_counts, bad_images}
 use Rattle.definitions.specs.Limits.{too_many_sites, not_some, too_many_listed, shorter_than}
 use Rattle.definitions.specs.Lists.{all, any}
@@ -25,8 +25,8 @@ use Rattle.base_cell.specs.Grouping.{Groupable, Grouped, groupable, LabelsLeft}
 use Rattle.base_cell.proofs.Tables.{length-multiplicities}
 
 abbrev pub accepts : Verdict → Bool
-accepts Accepted = true
-accepts (Refused k) = false
+accepts (Ok u) = true
+accepts (Err k) = false
 
 none_of_four : (a b c d : Bool) → (not a && not b && not c && not d) ≡ true → (a ≡ false) × (b ≡ false) × (c ≡ false) × (d ≡ false)
 none_of_four false false false false e = (refl, refl, refl, refl)
@@ -75,11 +75,11 @@ module _ (x : LabelArguments) (e : LabelCells) where
   -- by the call's verdict
   pub facts : (v : Verdict) → Checked (label_conditions x (label_rooms e)) v → accepts v ≡ true → CanGroup
   unfolding numbered FailAll
-  facts Accepted c h =
+  facts (Ok u) c h =
       let fails = past (label_conditions x (label_rooms e)) tt c in
       known (off _ fails.0) (neither_right (bad_images x.sites x.count x.images) _ (off _ fails.1.0)) (off _ fails.1.1.0)
       (off _ fails.1.1.1.0)
-  facts (Refused k) c h = absurd (never h)
+  facts (Err k) c h = absurd (never h)
 
   -- ---- what is left
 
@@ -101,7 +101,7 @@ module _ (x : LabelArguments) (e : LabelCells) where
 
     -- the promise, by the verdict
     pub kept : (v : Verdict) → Checked (label_conditions x (label_rooms e)) v → LabelsLeft x e z (accepts v) → LabelPromise x e z v
-    kept Accepted c (a, is, held) =
+    kept (Ok u) c (a, is, held) =
         promise_accepted (label_conditions x (label_rooms e)) (IsLabelled x) (HoldsLabels e z) (HoldsLabels e z nothing_labelled) a c is held
-    kept (Refused k) c zero =
+    kept (Err k) c zero =
         promise_refused (label_conditions x (label_rooms e)) (IsLabelled x) (HoldsLabels e z) (HoldsLabels e z nothing_labelled) k c zero

@@ -9,7 +9,7 @@ pub mod verdicts;
 
 ghost use Rattle.std.specs.Prelude.{true};
 ghost use Rattle.definitions.specs.SiteCalls.{HoldsLabels, LabelPromise, nothing_labelled};
-ghost use Rattle.base_cell.specs.Given.{arguments_of};
+ghost use Rattle.base_cell.specs.Given.{arguments_of, orbit_cells, SameRooms, SameOrbits};
 ghost use Rattle.base_cell.specs.Grouping.{Groupable, LabelsLeft, OrbitsLabelled};
 
 use crate::labels::group_sites_by_orbit;
@@ -17,79 +17,61 @@ use crate::verdicts::Labelling;
 use definitions::Verdict;
 use lent::clear;
 
-// The answer and zero behind it.
-fn put_orbits(x: &Labelling, labels: &mut [u16], multiplicities: &mut [u16])
-    requires { Groupable x.now.sites x.now.count x.now.images.now x.now.mapping.now labels.old multiplicities.old }
-    ensures { LabelsLeft (arguments_of x.now)
-        (record { labels = labels.old; multiplicities = multiplicities.old })
-        (record { labels = labels.new; multiplicities = multiplicities.new }) true }
-{
-    group_sites_by_orbit(x, labels, multiplicities);
-    clear(labels, x.mapping.len());
-    clear(multiplicities, x.mapping.len());
+// The two lists that a caller lends, with an entry a listed site in each: its label and its multiplicity.
+#[derive(Drop)]
+pub struct Orbits<'a> {
+    pub labels: &'a mut [u16],
+    pub multiplicities: &'a mut [u16],
 }
 
-// Zero.
-fn put_nothing(labels: &mut [u16], multiplicities: &mut [u16])
-    ensures { HoldsLabels
-        (record { labels = labels.old; multiplicities = multiplicities.old })
-        (record { labels = labels.new; multiplicities = multiplicities.new }) nothing_labelled }
-{
-    clear(labels, 0);
-    clear(multiplicities, 0);
+impl<'a> Orbits<'a> {
+    // The answer and zero behind it.
+    fn put(&mut self, x: &Labelling)
+        requires { Groupable x.now.sites x.now.count x.now.images.now x.now.mapping.now
+            self.old.labels.now self.old.multiplicities.now }
+        ensures left { LabelsLeft (arguments_of x.now) (orbit_cells self.old) (orbit_cells self.new) true }
+        ensures rooms { SameRooms (orbit_cells self.old) (orbit_cells self.new) }
+        ensures same_lists { SameOrbits self.old self.new }
+    {
+        group_sites_by_orbit(x, self.labels, self.multiplicities);
+        clear(self.labels, x.mapping.len());
+        clear(self.multiplicities, x.mapping.len());
+    }
+
+    // Zero.
+    pub fn clear(&mut self)
+        ensures zero { HoldsLabels (orbit_cells self.old) (orbit_cells self.new) nothing_labelled }
+        ensures rooms { SameRooms (orbit_cells self.old) (orbit_cells self.new) }
+        ensures same_lists { SameOrbits self.old self.new }
+    {
+        clear(self.labels, 0);
+        clear(self.multiplicities, 0);
+    }
 }
 
 // moyo's `orbits_in_cell` and `group_sites_by_orbit`: labels and multiplicities of the sites of a mapping.
-pub fn label_sites(
-    sites: usize,
-    count: usize,
-    images: &[u8],
-    mapping: &[u16],
-    labels: &mut [u16],
-    multiplicities: &mut [u16],
-) -> Verdict
-    ensures { LabelPromise
-        (record { sites = sites; count = count; images = images.now; mapping = mapping.now })
-        (record { labels = labels.old; multiplicities = multiplicities.old })
-        (record { labels = labels.new; multiplicities = multiplicities.new }) result }
+pub fn label_sites(x: &Labelling, orbits: &mut Orbits) -> Verdict
+    ensures labelled { LabelPromise (arguments_of x.now) (orbit_cells orbits.old) (orbit_cells orbits.new) result }
+    ensures rooms { SameRooms (orbit_cells orbits.old) (orbit_cells orbits.new) }
+    ensures same_lists { SameOrbits orbits.old orbits.new }
 {
-    let x = Labelling {
-        sites,
-        count,
-        images,
-        mapping,
-    };
-    let v = x.verdict(labels.len(), multiplicities.len());
+    let v = x.verdict(orbits.labels.len(), orbits.multiplicities.len());
     match v {
-        Verdict::Accepted => put_orbits(&x, labels, multiplicities),
-        Verdict::Refused(_) => put_nothing(labels, multiplicities),
+        Ok(()) => orbits.put(x),
+        Err(_) => orbits.clear(),
     }
     v
 }
 
 // The step of it that labels, whatever the images are: where they are known to be permutations, none is tested again.
-pub fn label_orbits(
-    sites: usize,
-    count: usize,
-    images: &[u8],
-    mapping: &[u16],
-    labels: &mut [u16],
-    multiplicities: &mut [u16],
-)
-    ensures { OrbitsLabelled
-        (record { sites = sites; count = count; images = images.now; mapping = mapping.now })
-        (record { labels = labels.old; multiplicities = multiplicities.old })
-        (record { labels = labels.new; multiplicities = multiplicities.new }) }
+pub fn label_orbits(x: &Labelling, orbits: &mut Orbits)
+    ensures labelled { OrbitsLabelled (arguments_of x.now) (orbit_cells orbits.old) (orbit_cells orbits.new) }
+    ensures rooms { SameRooms (orbit_cells orbits.old) (orbit_cells orbits.new) }
+    ensures same_lists { SameOrbits orbits.old orbits.new }
 {
-    let x = Labelling {
-        sites,
-        count,
-        images,
-        mapping,
-    };
-    if x.can_group(labels.len(), multiplicities.len()) {
-        put_orbits(&x, labels, multiplicities);
+    if x.can_group(orbits.labels.len(), orbits.multiplicities.len()) {
+        orbits.put(x);
     } else {
-        put_nothing(labels, multiplicities);
+        orbits.clear();
     }
 }

@@ -12,15 +12,15 @@ ghost use Rattle.base_cell.specs.Grouping.{groupable};
 
 use base_permutation::all_permutations;
 use definitions::limits::{MOST_LISTED, MOST_OPERATIONS, MOST_SITES};
-use definitions::{Verdict, refusal};
+use definitions::{Refusal, Verdict};
 
 // What the call and its step are given: permutations of so many sites, and of each listed site its primitive one.
 #[derive(Clone, Copy)]
-pub struct Labelling<'a> {
+pub struct Labelling<'i, 'm> {
     pub sites: usize,
     pub count: usize,
-    pub images: &'a [u8],
-    pub mapping: &'a [u16],
+    pub images: &'i [u8],
+    pub mapping: &'m [u16],
 }
 
 // Apart from `bad_mapping`, since there the check does not find what `all` says of the list.
@@ -30,7 +30,7 @@ fn each_below(n: usize, mapping: &[u16]) -> bool
     mapping.iter().all(|site| usize::from(*site) < n)
 }
 
-impl Labelling<'_> {
+impl Labelling<'_, '_> {
     // 2: the product is small by the time that it is made.
     pub fn bad_counts(&self) -> bool
         ensures { result ≡ bad_permutation_counts self.now.sites self.now.count self.now.images.now }
@@ -85,18 +85,18 @@ impl Labelling<'_> {
         ensures { Checked (label_conditions (arguments_of self.now) (labels ∷ multiplicities ∷ [])) result }
     {
         if self.bad_counts() {
-            return Verdict::Refused(refusal::COUNTS);
+            return Err(Refusal::Counts);
         }
         if self.bad_sites() {
-            return Verdict::Refused(refusal::SITE_IMAGE);
+            return Err(Refusal::SiteImage);
         }
         if self.lists_too_many() {
-            return Verdict::Refused(refusal::LISTED_SITES);
+            return Err(Refusal::ListedSites);
         }
         if self.lacks_room(labels, multiplicities) {
-            return Verdict::Refused(refusal::BUFFER);
+            return Err(Refusal::Buffer);
         }
-        Verdict::Accepted
+        Ok(())
     }
 
     // The step's test: as `verdict`, without the costly one, that the images are permutations.

@@ -3,7 +3,8 @@ use Rattle.std.proofs.Common.{◌≡◌, ℕ, ◌-◌, ◌<◌, Bool, true, fals
 use mathlib.Core.List.{map-map, map-append}
 use lib.ListN.{length-map}
 use lib.Ieee.{Float}
-use Rattle.definitions.specs.declared.Verdict.TheVariants.{Accepted, Refused}
+use Rattle.std.specs.Prelude.{Err, Ok}
+use Rattle.definitions.specs.declared.Refusal.{Refusal}
 use Rattle.definitions.specs.Lists.{each}
 use Rattle.definitions.specs.Limits.{copies, most_copies}
 use Rattle.definitions.specs.Lent.{position_from, cells_of, zero_cells, zero_point}
@@ -11,13 +12,13 @@ use Rattle.definitions.specs.Matrix.{Matrix}
 use Rattle.definitions.specs.Real.{RealMatrix, inverse_of_c}
 use Rattle.definitions.specs.Refusal.{Condition, Checked, padded}
 use Rattle.definitions.specs.Cell.{listed_position, listed_positions, listed_points, site_mapping, listed_elements}
-use Rattle.definitions.specs.SiteCalls.{Listing, ListingCells, listing_rooms, HoldsListing, nothing_listed, listable, listing_at, listing_of}
+use Rattle.definitions.specs.SiteCalls.{ListingCells, listing_rooms, HoldsListing, nothing_listed, listable, listing_at, listing_of}
 use Rattle.definitions.specs.SiteCalls.{CopiesListed, list_conditions, IsListing, ListPromise}
 use Rattle.laws.specs.Verdicts.{promise_accepted, promise_refused}
 use Rattle.math_matrix.specs.Laws.{Three}
 use Rattle.base_transformation.specs.Answers.{points_of, Ended, Ready}
 use Rattle.base_transformation_laws.proofs.Covered.{run-points-count}
-use Rattle.base_transformation.specs.Runs.{run_cells, lists}
+use Rattle.base_transformation.specs.Runs.{run_cells}
 use Rattle.base_transformation.specs.Copied.{list_facts}
 use Rattle.base_transformation.proofs.Points.{run-points}
 use Rattle.base_transformation.proofs.Accepted.{ready_of}
@@ -61,12 +62,6 @@ module _ (c : Matrix) (fs : List (List ℤ)) (es : List ℤ) (ps : List (List Fl
   pub nothing-listed : can ≡ false → HoldsListing entry exit nothing_listed → CopiesListed c fs es ps entry exit
   nothing-listed h e = subst Left (sym h) e
 
--- where the lists are given back as they were left
-module _ {entry : ListingCells} {a : Listing} {ps ps' : List (List Float)} {fs fs' : List (List ℤ)} {ms ms' : List ℕ} {es es' : List ℤ} where
-  pub given_back : HoldsListing entry (lists ps fs ms es) a → ps' ≡ ps → fs' ≡ fs → ms' ≡ ms → es' ≡ es → HoldsListing entry (lists ps' fs' ms' es') a
-  given_back h i j k l =
-      record { positions = i ∙ h.positions; points = j ∙ h.points; mapping = k ∙ h.mapping; elements = l ∙ h.elements }
-
 -- ---- the points that a list begins with
 
 module _ (fs l : List (List ℤ)) (n m : ℕ) (e : l ≡ padded zero_point fs n) (count : length fs ≡ m) where
@@ -80,7 +75,7 @@ module _ (c : Matrix) (es : List ℤ) (ps : List (List Float)) (entry : ListingC
   abbrev conditions : List Condition
   conditions = list_conditions c es ps (listing_rooms entry)
 
-  module _ (accepted : Checked conditions Accepted) (shape : Three c) where
+  module _ (accepted : Checked conditions (Ok tt)) (shape : Three c) where
     regular : 0 < copies c
     regular = (list_facts c es ps (listing_rooms entry) accepted).copied.0
 
@@ -107,12 +102,12 @@ module _ (c : Matrix) (es : List ℤ) (ps : List (List Float)) (entry : ListingC
           subst (λ (m : ℕ). listable (length ps) (length es) m (listing_rooms entry) ≡ true) (sym count)
           (can_list (length ps) (length es) (copies c) entry f.sites f.alike f.few f.room)
 
-      pub keep-accepted : (exit : ListingCells) → CopiesListed c (points_of d l) es ps entry exit → ListPromise c es ps entry exit Accepted
+      pub keep-accepted : (exit : ListingCells) → CopiesListed c (points_of d l) es ps entry exit → ListPromise c es ps entry exit (Ok tt)
       keep-accepted exit h =
           promise_accepted conditions (IsListing c es ps) (HoldsListing entry exit) (HoldsListing entry exit nothing_listed)
           (listing_of es (map position_from ps) ended.1.0) accepted (ended.1.0, refl)
           (subst (HoldsListing entry exit) same (subst (Left c (points_of d l) es ps entry exit) can_be h))
 
-  pub keep_refused : (k : ℕ) (exit : ListingCells) → Checked conditions (Refused k) → HoldsListing entry exit nothing_listed → ListPromise c es ps entry exit (Refused k)
-  keep_refused k exit refused h =
-      promise_refused conditions (IsListing c es ps) (HoldsListing entry exit) (HoldsListing entry exit nothing_listed) k refused h
+  pub keep_refused : (r : Refusal) (exit : ListingCells) → Checked conditions (Err r) → HoldsListing entry exit nothing_listed → ListPromise c es ps entry exit (Err r)
+  keep_refused r exit refused h =
+      promise_refused conditions (IsListing c es ps) (HoldsListing entry exit) (HoldsListing entry exit nothing_listed) r refused h

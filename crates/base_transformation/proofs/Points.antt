@@ -1,7 +1,7 @@
 -- Which point stands at the place k, that the digits of k can be computed, and what the list is in the end.
 use Rattle.std.proofs.Common.{◌≡◌, ℕ, zero, suc, ◌*◌, ◌/◌, ◌%◌, ◌<◌, ◌≤◌, List, [], ◌∷◌, ◌++◌, map, length, get_or, drop, ℤ, pos, nat_abs, sym, refl, ap, ◌∙◌, arith}
 use lib.ListN.{length-map}
-use Rattle.definitions.specs.declared.Verdict.TheVariants.{Accepted}
+use Rattle.std.specs.Prelude.{Ok}
 use Rattle.definitions.specs.Refusal.{padded}
 use Rattle.definitions.specs.Matrix.{Matrix, at, apply, inverse}
 use Rattle.definitions.specs.Snf.{State, box, points}
@@ -46,7 +46,7 @@ points_of_lem t = refl
 pub run-points : (c d l : Matrix) (e : Ended c d l) → points e.1.0.third ≡ points_of d l
 run-points c d l e = ap points e.1.1 ∙ points_of_lem (record { d = d; l = l; r = e.0 })
 
-pub points-lent : (c d l : Matrix) (entry exit : List (List ℤ)) → Ended c d l → exit ≡ padded zero_point (points_of d l) (length entry) → PointsLent c entry exit Accepted
+pub points-lent : (c d l : Matrix) (entry exit : List (List ℤ)) → Ended c d l → exit ≡ padded zero_point (points_of d l) (length entry) → PointsLent c entry exit (Ok tt)
 points-lent c d l entry exit e f =
     (e.1.0, f ∙ ap (λ (ps : List (List ℤ)). padded zero_point ps (length entry)) (sym (run-points c d l e)))
 

@@ -6,14 +6,13 @@ use Rattle.std.proofs.Math.Path.{ap}
 use Rattle.std.proofs.lemmas.List.{length-map}
 use Rattle.std.proofs.Math.ListN.{length-replicate, get_or-replicate, get_or-append}
 use borrow.Author.Tests.{ltb-false, eqb-true, eqb-false, not-false}
-use Rattle.definitions.specs.declared.Verdict.{Verdict}
-use Rattle.definitions.specs.declared.Verdict.TheVariants.{Accepted, Refused}
+use Rattle.std.specs.Prelude.{Ok}
 use Rattle.definitions.specs.Lists.{any}
 use Rattle.definitions.specs.Limits.{copies, most_copies, too_many_sites, shorter_than}
 use Rattle.definitions.specs.Lent.{position_from, cells_of, zero_cells, zero_point, unlike}
 use Rattle.definitions.specs.Matrix.{Matrix}
 use Rattle.definitions.specs.Real.{origin}
-use Rattle.definitions.specs.Refusal.{Checked, Outcome, accepted, refused, told, Returns, padded}
+use Rattle.definitions.specs.Refusal.{Checked, Outcome, accepted, refused, TellsOf, Returns, padded}
 use Rattle.definitions.specs.Snf.{Run, points}
 use Rattle.definitions.specs.Cell.{listed_position, listed_elements}
 use Rattle.definitions.specs.SiteCalls.{Listing, ListingCells, listing_rooms, HoldsListing, listing_of, list_conditions, ListAnswered, ListPromise}
@@ -32,7 +31,7 @@ pub record ListFacts (c : Matrix) (es : List ℤ) (ps : List (List Float)) (room
   pub room : any (shorter_than (length ps * copies c)) rooms ≡ false
   pub copied : (0 < copies c) × (copies c ≤ most_copies)
 
-pub list_facts : (c : Matrix) (es : List ℤ) (ps : List (List Float)) (rooms : List ℕ) → Checked (list_conditions c es ps rooms) Accepted → ListFacts c es ps rooms
+pub list_facts : (c : Matrix) (es : List ℤ) (ps : List (List Float)) (rooms : List ℕ) → Checked (list_conditions c es ps rooms) (Ok tt) → ListFacts c es ps rooms
 unfolding numbered FailAll
 list_facts c es ps rooms e =
     let fails = past (list_conditions c es ps rooms) tt e in
@@ -146,16 +145,16 @@ module _ {c : Matrix} (shape : Three c) (es : List ℤ) (ps : List (List Float))
 
 -- Demand 3 in the cells that an accepted `list_sites` leaves: each primitive site's copies, none missing or twice.
 pub list_sites_covers :
-    {c : Matrix} → Three c → (es : List ℤ) (ps : List (List Float)) (entry exit : ListingCells) → ListPromise c es ps entry exit Accepted →
+    {c : Matrix} → Three c → (es : List ℤ) (ps : List (List Float)) (entry exit : ListingCells) → ListPromise c es ps entry exit (Ok tt) →
     (r : Run c) × CopiesHeld c r es ps exit
 unfolding Returns Checked
 list_sites_covers {c} shape es ps entry exit (o, h, e) = by o h e
   where
-    IsAccepted : Verdict → Type 0
-    IsAccepted Accepted = Unit {0}
-    IsAccepted (Refused k) = ⊥
+    IsAccepted : Outcome (Unit {0}) → Type 0
+    IsAccepted (accepted u) = Unit {0}
+    IsAccepted (refused k) = ⊥
 
-    by : (o : Outcome Listing) → ListAnswered c es ps entry exit o → told o ≡ Accepted → (r : Run c) × CopiesHeld c r es ps exit
+    by : (o : Outcome Listing) → ListAnswered c es ps entry exit o → TellsOf (λ (a : Listing). tt {0}) o (Ok tt) → (r : Run c) × CopiesHeld c r es ps exit
     by (accepted a) h e =
         let facts = list_facts c es ps (listing_rooms entry) (h.0.0, tt) in
         copies_held shape es ps entry exit facts h.0.1.0 (subst (HoldsListing entry exit) h.0.1.1 h.1)

@@ -5,7 +5,7 @@ use Rattle.std.proofs.Common.{sym, ap, subst, ◌∙◌, arith, take_at, get_or-
 use Rattle.std.proofs.lemmas.List.{get_or-replicate}
 use Rattle.std.proofs.Math.ListN.{get_or-append}
 use Rattle.std.proofs.lemmas.Bool.{eqb-false}
-use Rattle.definitions.specs.declared.Verdict.TheVariants.{Accepted}
+use Rattle.std.specs.Prelude.{Ok}
 use Rattle.definitions.specs.Refusal.{Checked, padded}
 use Rattle.definitions.specs.Matrix.{Matrix}
 use Rattle.definitions.specs.Snf.{points}
@@ -21,7 +21,7 @@ use Rattle.laws.specs.Tests.{off, neither_left, neither_right}
 use Rattle.laws.specs.Filling.{length-padded}
 
 -- the conditions that an accepted call is past
-pub points_facts : (c : Matrix) (room : ℕ) → Checked (points_conditions c room) Accepted → (0 < copies c) × (copies c ≤ 64) × (copies c ≤ room)
+pub points_facts : (c : Matrix) (room : ℕ) → Checked (points_conditions c room) (Ok tt) → (0 < copies c) × (copies c ≤ 64) × (copies c ≤ room)
 unfolding numbered FailAll
 points_facts c room e =
     let fails = past (points_conditions c room) tt e in
@@ -29,7 +29,7 @@ points_facts c room e =
     let some : copies c ≡ 0 → ⊥ = eqb-false _ _ (neither_left _ _ copied) in
     (omega arith, ltb-false _ _ (neither_right (copies c == 0) _ copied), ltb-false _ _ (off _ fails.1.1.1.0))
 
-module _ {c : Matrix} (shape : Three c) (entry exit : List (List ℤ)) (e : Checked (points_conditions c (length entry)) Accepted) (lent : PointsLent c entry exit Accepted) where
+module _ {c : Matrix} (shape : Three c) (entry exit : List (List ℤ)) (e : Checked (points_conditions c (length entry)) (Ok tt)) (lent : PointsLent c entry exit (Ok tt)) where
   count : length (points lent.0.third) ≡ copies c
   count = run-points-count shape (points_facts c (length entry) e).0 lent.0
 

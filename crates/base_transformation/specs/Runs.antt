@@ -32,6 +32,13 @@ SameLists l k =
     × (k.mapping.ghost_name ≡ l.mapping.ghost_name)
     × (k.elements.ghost_name ≡ l.elements.ghost_name)
 
+-- .. as long as they were
+pub record SameRooms (entry exit : ListingCells) : Type 0 where
+  pub positions : length exit.positions ≡ length entry.positions
+  pub points : length exit.points ≡ length entry.points
+  pub mapping : length exit.mapping ≡ length entry.mapping
+  pub elements : length exit.elements ≡ length entry.elements
+
 -- ---- what a closure of two places says of the lists that it makes
 
 module _ {T F : Type 0} (g : Shared F (ℕ × (ℕ × Unit {0})) T) (entry : F) where

@@ -10,13 +10,13 @@ ghost use Rattle.definitions.specs.Cell.{point_of, listed_points, site_mapping, 
 ghost use Rattle.definitions.specs.SiteCalls.{HoldsListing, nothing_listed, listable, listing_rooms, CopiesListed};
 ghost use Rattle.definitions.specs.SiteCalls.{list_conditions, ListPromise};
 ghost use Rattle.base_transformation.specs.Answers.{points_of, EndedOr, Ready};
-ghost use Rattle.base_transformation.specs.Runs.{copy_cells, run_cells, lists, held, SameLists};
+ghost use Rattle.base_transformation.specs.Runs.{copy_cells, run_cells, held, SameRooms, SameLists};
 ghost use Rattle.base_transformation.specs.Runs.{Makes, MakesRun, CanMake};
 
 use crate::{Ends, diagonalise, list_points};
 use checks::{all_cells_within, copies, in_range};
 use definitions::limits::{MOST_COPIES, MOST_LISTED, MOST_SITES};
-use definitions::{Basis, Cells, Linear, Point, Position, Verdict, refusal};
+use definitions::{Basis, Cells, Linear, Point, Position, Refusal, Verdict};
 use lent::{Zero, clear};
 use math_real::position;
 use math_real::whole::inverse_of_c;
@@ -48,7 +48,7 @@ fn copy_at(inverse: Basis, p: Position, f: Point) -> Cells
     let moved = position::sub(position::add(p, real_point(f)), origin);
     let copy = position::apply(inverse, moved);
     let reduced = position::remainder(copy);
-    position::cells_of(reduced)
+    Cells::from(reduced)
 }
 
 // ---- every run, and zero behind them
@@ -91,7 +91,7 @@ fn list_positions(inverse: Basis, points: &[Point], positions: &[Cells], out: &m
             ensures { result ≡ copy_cells inverse
                 (position_from (slice_index_or positions.entry.now i []))
                 (slice_index_or points.entry.now k []) }
-        { copy_at(inverse, position::position_of(positions[i]), points[k]) },
+        { copy_at(inverse, Position::from(positions[i]), points[k]) },
     );
 }
 
@@ -147,13 +147,13 @@ fn can_list(n: usize, elements: usize, m: usize, rooms: Rooms) -> bool
 
 // ---- the four lists
 
-// The lent lists of a listing.
+// The lent lists of a listing: an entry a listed site in each.
 #[derive(Drop)]
-struct Listing<'a> {
-    positions: &'a mut [Cells],
-    points: &'a mut [Point],
-    mapping: &'a mut [u16],
-    elements: &'a mut [i32],
+pub struct Listing<'a> {
+    pub positions: &'a mut [Cells],
+    pub points: &'a mut [Point],
+    pub mapping: &'a mut [u16],
+    pub elements: &'a mut [i32],
 }
 
 impl Listing<'_> {
@@ -170,29 +170,13 @@ impl Listing<'_> {
 
     fn clear(&mut self)
         ensures cleared { HoldsListing (held self.old) (held self.new) nothing_listed }
+        ensures rooms { SameRooms (held self.old) (held self.new) }
         ensures same_lists { SameLists self.old self.new }
     {
         clear(self.positions, 0);
         clear(self.points, 0);
         clear(self.mapping, 0);
         clear(self.elements, 0);
-    }
-
-    // the copies at the points, and nothing where the lists have no room
-    fn list(&mut self, c: Linear, points: &[Point], elements: &[i32], positions: &[Cells])
-        ensures listed { CopiesListed c points.now elements.now positions.now (held self.old) (held self.new) }
-        ensures same_lists { SameLists self.old self.new }
-    {
-        let n = positions.len();
-        let m = points.len();
-        if can_list(n, elements.len(), m, self.rooms()) {
-            list_positions(inverse_of_c(c), points, positions, self.positions);
-            list_run_points(points, n, self.points);
-            list_mapping(n, m, self.mapping);
-            list_elements(elements, m, self.elements);
-        } else {
-            self.clear();
-        }
     }
 }
 
@@ -207,24 +191,22 @@ pub fn list_copies(
     points: &[Point],
     elements: &[i32],
     positions: &[Cells],
-    out_positions: &mut [Cells],
-    out_points: &mut [Point],
-    mapping: &mut [u16],
-    out_elements: &mut [i32],
+    listing: &mut Listing,
 )
-    ensures { CopiesListed c points.now elements.now positions.now
-        (lists out_positions.old out_points.old
-        mapping.old out_elements.old)
-        (lists out_positions.new out_points.new
-        mapping.new out_elements.new) }
+    ensures listed { CopiesListed c points.now elements.now positions.now (held listing.old) (held listing.new) }
+    ensures rooms { SameRooms (held listing.old) (held listing.new) }
+    ensures same_lists { SameLists listing.old listing.new }
 {
-    let mut listing = Listing {
-        positions: out_positions,
-        points: out_points,
-        mapping,
-        elements: out_elements,
-    };
-    listing.list(c, points, elements, positions);
+    let n = positions.len();
+    let m = points.len();
+    if can_list(n, elements.len(), m, listing.rooms()) {
+        list_positions(inverse_of_c(c), points, positions, listing.positions);
+        list_run_points(points, n, listing.points);
+        list_mapping(n, m, listing.mapping);
+        list_elements(elements, m, listing.elements);
+    } else {
+        listing.clear();
+    }
 }
 
 // 2, 3, 4, 7, 8, 9, 10
@@ -233,25 +215,25 @@ fn diagonalise_for(
     elements: &[i32],
     positions: &[Cells],
     rooms: Rooms,
-) -> Result<Ends, usize>
+) -> Result<Ends, Refusal>
     ensures { EndedOr (list_conditions c elements.now positions.now rooms) c result }
 {
     if bad_counts(positions.len(), elements.len()) {
-        return Err(refusal::COUNTS);
+        return Err(Refusal::Counts);
     }
     if !in_range(c) {
-        return Err(refusal::MATRIX_ENTRY);
+        return Err(Refusal::MatrixEntry);
     }
     if !all_cells_within(positions) {
-        return Err(refusal::FLOAT_RANGE);
+        return Err(Refusal::FloatRange);
     }
     let ends = diagonalise(c)?;
     let listed = positions.len() * copies(c);
     if MOST_LISTED < listed {
-        return Err(refusal::LISTED_SITES);
+        return Err(Refusal::ListedSites);
     }
     if short(listed, rooms) {
-        return Err(refusal::BUFFER);
+        return Err(Refusal::Buffer);
     }
     Ok(ends)
 }
@@ -261,12 +243,13 @@ fn list_all(c: Linear, ends: Ends, elements: &[i32], positions: &[Cells], listin
     requires { (Ready ends.d most_copies) × (length (points_of ends.d ends.l) ≡ Limits.copies c) }
     ensures listed { CopiesListed c (points_of ends.d ends.l) elements.now positions.now
         (held listing.old) (held listing.new) }
+    ensures rooms { SameRooms (held listing.old) (held listing.new) }
     ensures same_lists { SameLists listing.old listing.new }
 {
     let mut points = [Point::ZERO; MOST_COPIES];
     list_points(ends, &mut points);
     let m = copies(c);
-    listing.list(c, &points[..m], elements, positions);
+    list_copies(c, &points[..m], elements, positions, listing);
 }
 
 // moyo's `transform_cell` at no change of origin: the copies of given positions
@@ -274,32 +257,20 @@ pub fn list_sites(
     c: Linear,
     elements: &[i32],
     positions: &[Cells],
-    out_positions: &mut [Cells],
-    out_points: &mut [Point],
-    mapping: &mut [u16],
-    out_elements: &mut [i32],
+    listing: &mut Listing,
 ) -> Verdict
-    ensures { ListPromise c elements.now positions.now
-        (lists out_positions.old out_points.old
-        mapping.old out_elements.old)
-        (lists out_positions.new out_points.new
-        mapping.new out_elements.new)
-        result }
+    ensures listed { ListPromise c elements.now positions.now (held listing.old) (held listing.new) result }
+    ensures rooms { SameRooms (held listing.old) (held listing.new) }
+    ensures same_lists { SameLists listing.old listing.new }
 {
-    let mut listing = Listing {
-        positions: out_positions,
-        points: out_points,
-        mapping,
-        elements: out_elements,
-    };
     match diagonalise_for(c, elements, positions, listing.rooms()) {
         Ok(ends) => {
-            list_all(c, ends, elements, positions, &mut listing);
-            Verdict::Accepted
+            list_all(c, ends, elements, positions, listing);
+            Ok(())
         }
-        Err(number) => {
+        Err(refusal) => {
             listing.clear();
-            Verdict::Refused(number)
+            Err(refusal)
         }
     }
 }

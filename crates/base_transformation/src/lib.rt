@@ -17,7 +17,7 @@ ghost use Rattle.base_transformation.specs.Answers.{Diagonalised, EndedOr, Ready
 
 use checks::{copies, good_copies, in_range, unimodular};
 use definitions::limits::MOST_COPIES;
-use definitions::{Cofactors, Integers, Linear, Point, Rotation, SnfMatrix, Verdict, refusal};
+use definitions::{Cofactors, Integers, Linear, Point, Refusal, Rotation, SnfMatrix, Verdict};
 use lent::{Zero, clear};
 use math_matrix::{apply, inverse, transform};
 use math_snf::snf;
@@ -35,31 +35,31 @@ fn rotation_verdict(t: Linear, r: Rotation) -> Verdict
     ensures { Checked (transform_conditions t r) result }
 {
     if !in_range(t) {
-        return Verdict::Refused(refusal::MATRIX_ENTRY);
+        return Err(Refusal::MatrixEntry);
     }
     if !in_range(r) {
-        return Verdict::Refused(refusal::MATRIX_ENTRY);
+        return Err(Refusal::MatrixEntry);
     }
     if !unimodular(t) {
-        return Verdict::Refused(refusal::DETERMINANT);
+        return Err(Refusal::Determinant);
     }
-    Verdict::Accepted
+    Ok(())
 }
 
 // T⁻¹RT
 pub fn transform_rotation(t: Linear, r: Rotation, out: &mut Integers) -> Verdict
     ensures { RotationPromise t r out.new result }
 {
-    let v = rotation_verdict(t, r);
-    match v {
-        Verdict::Accepted => {
+    match rotation_verdict(t, r) {
+        Ok(()) => {
             *out = transform(t, r);
+            Ok(())
         }
-        Verdict::Refused(_) => {
+        Err(refusal) => {
             *out = Integers::ZERO;
+            Err(refusal)
         }
     }
-    v
 }
 
 // ---- points
@@ -102,31 +102,29 @@ pub(crate) fn list_points(ends: Ends, out: &mut [Point])
 // ---- the conditions of the points
 
 // D and L, where there are from 1 to 64 copies and the diagonalisation keeps within its range
-pub(crate) fn diagonalise(c: Linear) -> Result<Ends, usize>
+pub(crate) fn diagonalise(c: Linear) -> Result<Ends, Refusal>
     requires { in_range c ≡ true }
     ensures { Diagonalised c result }
 {
     if !good_copies(c) {
-        return Err(refusal::DETERMINANT);
+        return Err(Refusal::Determinant);
     }
     let mut d = SnfMatrix::ZERO;
     let mut l = SnfMatrix::ZERO;
     let mut r = SnfMatrix::ZERO;
-    match snf(c, &mut d, &mut l, &mut r) {
-        Verdict::Accepted => Ok(Ends { d, l }),
-        Verdict::Refused(_) => Err(refusal::DIAGONALISATION),
-    }
+    snf(c, &mut d, &mut l, &mut r)?;
+    Ok(Ends { d, l })
 }
 
-fn diagonalise_for(c: Linear, room: usize) -> Result<Ends, usize>
+fn diagonalise_for(c: Linear, room: usize) -> Result<Ends, Refusal>
     ensures { EndedOr (points_conditions c room) c result }
 {
     if !in_range(c) {
-        return Err(refusal::MATRIX_ENTRY);
+        return Err(Refusal::MatrixEntry);
     }
     let ends = diagonalise(c)?;
     if room < copies(c) {
-        return Err(refusal::BUFFER);
+        return Err(Refusal::Buffer);
     }
     Ok(ends)
 }
@@ -138,11 +136,11 @@ pub fn lattice_points(c: Linear, out: &mut [Point]) -> Verdict
     match diagonalise_for(c, out.len()) {
         Ok(ends) => {
             list_points(ends, out);
-            Verdict::Accepted
+            Ok(())
         }
-        Err(number) => {
+        Err(refusal) => {
             clear(out, 0);
-            Verdict::Refused(number)
+            Err(refusal)
         }
     }
 }
@@ -162,11 +160,11 @@ pub fn invariant_factors(c: Linear, out: &mut [i16; 3]) -> Verdict
     match diagonalise_for(c, MOST_COPIES) {
         Ok(ends) => {
             *out = diagonal(ends.d);
-            Verdict::Accepted
+            Ok(())
         }
-        Err(number) => {
+        Err(refusal) => {
             *out = [0, 0, 0];
-            Verdict::Refused(number)
+            Err(refusal)
         }
     }
 }

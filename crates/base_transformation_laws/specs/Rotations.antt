@@ -6,10 +6,11 @@ use Rattle.std.proofs.Math.Path.{refl, ap}
 use Rattle.std.proofs.Common.{sym, subst, ◌∙◌}
 use Rattle.std.proofs.Math.Bool.{not}
 use borrow.Author.Tests.{eq-eqb}
-use Rattle.definitions.specs.declared.Verdict.{Verdict}
-use Rattle.definitions.specs.declared.Verdict.TheVariants.{Accepted, Refused}
+use Rattle.definitions.specs.Refusal.{Verdict}
+use Rattle.std.specs.Prelude.{Err, Ok}
+use Rattle.definitions.specs.declared.Refusal.TheVariants.{MatrixEntry}
 use Rattle.definitions.specs.Lists.{all}
-use Rattle.definitions.specs.Refusal.{matrix_entry, Checked, lent_value}
+use Rattle.definitions.specs.Refusal.{Checked, lent_value}
 use Rattle.definitions.specs.Lent.{zero_matrix}
 use Rattle.definitions.specs.Limits.{in_range}
 use Rattle.definitions.specs.Matrix.{Matrix, identity, mul_m, transpose, det, inverse}
@@ -28,24 +29,24 @@ pub record UnimodularInRange (t : Matrix) : Type 0 where
 
 -- The call on T and R accepts with x: its promise allows that return, and no other.
 pub record Accepts (t r x : Matrix) : Type 0 where
-  pub promised : RotationPromise t r x Accepted
-  pub only : (exit : Matrix) (v : Verdict) → RotationPromise t r exit v → (v ≡ Accepted) × (exit ≡ x)
+  pub promised : RotationPromise t r x (Ok tt)
+  pub only : (exit : Matrix) (v : Verdict) → RotationPromise t r exit v → (v ≡ (Ok tt)) × (exit ≡ x)
 
 -- ---- the call accepts
 
 module _ (t r : Matrix) (h : UnimodularInRange t) (g : in_range r ≡ true) where
-  past : Checked (transform_conditions t r) Accepted
+  past : Checked (transform_conditions t r) (Ok tt)
   unfolding verdict_of
   past =
       let unimodular = eq-eqb (nat_abs (det t)) 1 h.unit in
       checked (transform_conditions t r)
       (is_false (ap not h.is_in_range), (is_false (ap not g), (is_false (ap not unimodular), tt)))
-      Accepted refl
+      (Ok tt) refl
 
-  told : (exit : Matrix) (v : Verdict) → RotationPromise t r exit v → (v ≡ Accepted) × (exit ≡ transform_rotation t r)
+  told : (exit : Matrix) (v : Verdict) → RotationPromise t r exit v → (v ≡ (Ok tt)) × (exit ≡ transform_rotation t r)
   unfolding numbered
   told exit v p =
-      let e : v ≡ Accepted = checked_unique (transform_conditions t r) tt v Accepted p.0 past in
+      let e : v ≡ (Ok tt) = checked_unique (transform_conditions t r) tt v (Ok tt) p.0 past in
       (e, p.1 ∙ ap (lent_value zero_matrix (transform_rotation t r)) e)
 
   -- with T⁻¹RT
@@ -173,7 +174,7 @@ order_matters = (refl, refl, refl)
 pub range_between_matters :
     let t = shear (pos 6) in
     UnimodularInRange t × (in_range (inverse t) ≡ true) × (in_range (mul_m t (inverse t)) ≡ true)
-    × RotationPromise (inverse t) (transform_rotation t fourfold) zero_matrix (Refused matrix_entry)
+    × RotationPromise (inverse t) (transform_rotation t fourfold) zero_matrix (Err MatrixEntry)
 unfolding all verdict_of
 range_between_matters =
     let t = shear (pos 6) in
@@ -181,5 +182,5 @@ range_between_matters =
       record { is_in_range = refl; unit = refl },
       refl,
       refl,
-      (checked conditions (is_false refl, (is_true refl, (untested, tt))) (Refused matrix_entry) refl, refl),
+      (checked conditions (is_false refl, (is_true refl, (untested, tt))) (Err MatrixEntry) refl, refl),
     )

@@ -1,32 +1,24 @@
 -- `label_sites`: the verdict is `verdict`'s, and what is left is by it.
 use Rattle.std.proofs.Common.{sym, ap, subst}
-use Rattle.definitions.specs.SiteCalls.{LabelArguments, LabelCells}
+use Rattle.base_cell.specs.Given.{arguments_of, orbit_cells}
 use Rattle.base_cell.specs.Grouping.{LabelsLeft}
 use Rattle.base_cell.proofs.Accepted.{accepts, facts, kept}
 use Rattle.base_cell.proofs.label_sites.Goals as goal
-use Rattle.base_cell.proofs.label_sites.Goals.{Start}
 
-abbrev given : Start → LabelArguments
-given s = record { sites = s.args.sites; count = s.args.count; images = s.args.images.now; mapping = s.args.mapping.now }
+pub put-requires : goal.put-requires
+put-requires c =
+    facts (arguments_of c.args.x.now) (orbit_cells c.args.orbits.now) c.verdict-v.result c.verdict-v.ensures (ap accepts c.in-Ok.is)
 
-abbrev lent : Start → LabelCells
-lent s = record { labels = s.args.labels.now; multiplicities = s.args.multiplicities.now }
+pub returns-in-Ok-clause-labelled : goal.returns-in-Ok-clause-labelled
+returns-in-Ok-clause-labelled c =
+    let x = arguments_of c.args.x.now in
+    let lent = orbit_cells c.args.orbits.now in
+    let left = orbit_cells c.put.new.self in
+    kept x lent left c.verdict-v.result c.verdict-v.ensures (subst (LabelsLeft x lent left) (sym (ap accepts c.in-Ok.is)) c.put.ensures.left)
 
-pub put_orbits-requires : goal.put_orbits-requires
-put_orbits-requires c =
-    let s = (goal.at.put_orbits-requires c).Start in
-    facts (given s) (lent s) c.verdict-v.result c.verdict-v.ensures (ap accepts c.in-Accepted.is)
-
-pub returns-in-Accepted : goal.returns-in-Accepted
-returns-in-Accepted c =
-    let s = (goal.at.returns-in-Accepted c).Start in
-    let p = c.put_orbits in
-    let z : LabelCells = record { labels = p.new.labels; multiplicities = p.new.multiplicities } in
-    kept (given s) (lent s) z c.verdict-v.result c.verdict-v.ensures (subst (LabelsLeft (given s) (lent s) z) (sym (ap accepts c.in-Accepted.is)) p.ensures)
-
-pub returns-in-Refused : goal.returns-in-Refused
-returns-in-Refused c =
-    let s = (goal.at.returns-in-Refused c).Start in
-    let p = c.put_nothing in
-    let z : LabelCells = record { labels = p.new.labels; multiplicities = p.new.multiplicities } in
-    kept (given s) (lent s) z c.verdict-v.result c.verdict-v.ensures (subst (LabelsLeft (given s) (lent s) z) (sym (ap accepts c.in-Refused.is)) p.ensures)
+pub returns-in-Err-clause-labelled : goal.returns-in-Err-clause-labelled
+returns-in-Err-clause-labelled c =
+    let x = arguments_of c.args.x.now in
+    let lent = orbit_cells c.args.orbits.now in
+    let left = orbit_cells c.clear.new.self in
+    kept x lent left c.verdict-v.result c.verdict-v.ensures (subst (LabelsLeft x lent left) (sym (ap accepts c.in-Err.is)) c.clear.ensures.zero)

@@ -9,4 +9,4 @@ returns-in-Ok c =
     factors_accepted c.args.c x.ends.d x.ends.l c.diagonal.result x.ensures.0 x.ensures.1 c.diagonal.ensures
 
 pub returns-in-Err : goal.returns-in-Err
-returns-in-Err c = factors_refused c.args.c c.in-Err.number _ c.in-Err.ensures refl
+returns-in-Err c = factors_refused c.args.c c.in-Err.refusal _ c.in-Err.ensures refl

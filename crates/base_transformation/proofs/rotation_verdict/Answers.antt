@@ -1,6 +1,7 @@
 -- Each return has tested what comes before it.
 use Rattle.std.proofs.Common.{◌≡◌, false, not, sym, refl, ap, ◌∙◌}
-use Rattle.definitions.specs.declared.Verdict.TheVariants.{Accepted, Refused}
+use Rattle.std.specs.Prelude.{Err, Ok}
+use Rattle.definitions.specs.declared.Refusal.TheVariants.{MatrixEntry, Determinant}
 use Rattle.definitions.specs.Limits.{in_range, not_unimodular}
 use Rattle.laws.specs.Verdicts.{untested, is_true, is_false, verdict_of, checked}
 use Rattle.laws.specs.Tests.{branch_fails, branch_passes}
@@ -9,7 +10,7 @@ use Rattle.base_transformation.proofs.rotation_verdict.Goals.{Else-not-in_range,
 
 pub returns-then-not-in_range : goal.returns-then-not-in_range
 unfolding verdict_of
-returns-then-not-in_range c = checked _ (is_true (ap not (sym c.in_range.ensures) ∙ (ap not c.if-not-in_range.true)), (untested, (untested, tt))) (Refused 3) refl
+returns-then-not-in_range c = checked _ (is_true (ap not (sym c.in_range.ensures) ∙ (ap not c.if-not-in_range.true)), (untested, (untested, tt))) (Err MatrixEntry) refl
 
 first : (c : Else-not-in_range) → not (in_range c.args.t) ≡ false
 first c = ap not (sym c.in_range.ensures) ∙ (ap not c.if-not-in_range.false)
@@ -19,14 +20,14 @@ second c = ap not (sym c.in_range-2.ensures) ∙ (ap not c.if-not-in_range-2.fal
 
 pub returns-then-not-in_range-2 : goal.returns-then-not-in_range-2
 unfolding verdict_of
-returns-then-not-in_range-2 c = checked _ (is_false (first (goal.at.returns-then-not-in_range-2 c).Else-not-in_range), (is_true (ap not (sym c.in_range-2.ensures) ∙ (ap not c.if-not-in_range-2.true)), (untested, tt))) (Refused 3) refl
+returns-then-not-in_range-2 c = checked _ (is_false (first (goal.at.returns-then-not-in_range-2 c).Else-not-in_range), (is_true (ap not (sym c.in_range-2.ensures) ∙ (ap not c.if-not-in_range-2.true)), (untested, tt))) (Err MatrixEntry) refl
 
 pub returns-then-not-unimodular : goal.returns-then-not-unimodular
 unfolding verdict_of
 returns-then-not-unimodular c =
-    checked _ (is_false (first (goal.at.returns-then-not-unimodular c).Else-not-in_range), (is_false (second (goal.at.returns-then-not-unimodular c).Else-not-in_range-2), (is_true (branch_fails c.unimodular.result (not_unimodular c.args.t) c.unimodular.ensures (ap not c.if-not-unimodular.true)), tt))) (Refused 7) refl
+    checked _ (is_false (first (goal.at.returns-then-not-unimodular c).Else-not-in_range), (is_false (second (goal.at.returns-then-not-unimodular c).Else-not-in_range-2), (is_true (branch_fails c.unimodular.result (not_unimodular c.args.t) c.unimodular.ensures (ap not c.if-not-unimodular.true)), tt))) (Err Determinant) refl
 
 pub returns : goal.returns
 unfolding verdict_of
 returns c =
-    checked _ (is_false (first (goal.at.returns c).Else-not-in_range), (is_false (second (goal.at.returns c).Else-not-in_range-2), (is_false (branch_passes c.unimodular.result (not_unimodular c.args.t) c.unimodular.ensures (ap not c.if-not-unimodular.false)), tt))) Accepted refl
+    checked _ (is_false (first (goal.at.returns c).Else-not-in_range), (is_false (second (goal.at.returns c).Else-not-in_range-2), (is_false (branch_passes c.unimodular.result (not_unimodular c.args.t) c.unimodular.ensures (ap not c.if-not-unimodular.false)), tt))) (Ok tt) refl

@@ -1,6 +1,8 @@
 -- Each return has tested what comes before it.
-use Rattle.std.proofs.Common.{◌≡◌, ℕ, ◌*◌, false, not, List, Err, length, sym, refl, ap, ◌∙◌, subst, ⊎_elim, le-ltb, lt-ltb}
-use Rattle.definitions.specs.declared.Verdict.TheVariants.{Refused}
+use Rattle.std.proofs.Common.{◌≡◌, ℕ, ◌*◌, false, not, List, length, sym, refl, ap, ◌∙◌, subst, ⊎_elim, le-ltb, lt-ltb}
+use Rattle.std.specs.Prelude.{Err}
+use Rattle.definitions.specs.declared.Refusal.{Refusal}
+use Rattle.definitions.specs.declared.Refusal.TheVariants.{Counts, MatrixEntry, FloatRange, Determinant, Diagonalisation, ListedSites, Buffer}
 use Rattle.definitions.specs.Refusal.{Condition, Checked}
 use Rattle.definitions.specs.Limits.{in_range, bad_copies, copies, too_many_listed, shorter_than}
 use Rattle.definitions.specs.Lists.{any}
@@ -8,7 +10,7 @@ use Rattle.definitions.specs.Snf.{Leaves}
 use Rattle.definitions.specs.SiteCalls.{list_conditions}
 use Rattle.laws.specs.Tests.{so, not_so}
 use Rattle.laws.specs.Verdicts.{HoldsAt, Passed, pass, found_at_lem, found_none, refuse, accept, verdict_of}
-use Rattle.base_transformation.specs.Answers.{Diagonalised}
+use Rattle.base_transformation.specs.Answers.{Diagonalised, EndedOr}
 use Rattle.base_transformation.proofs.Accepted.{err_case}
 use Rattle.base_transformation.proofs.cell.diagonalise_for.Goals as goal
 use Rattle.base_transformation.proofs.cell.diagonalise_for.Goals.{Else-bad_counts, Else-not-all_cells_within, Else-not-in_range, Start}
@@ -47,13 +49,13 @@ module _ (c : Else-not-all_cells_within) where
   unfolding HoldsAt
   past₃ = pass _ 2 (past₂ (goal.at.Else-not-all_cells_within c).Else-not-in_range) (not_so (ap not (sym c.all_cells_within.ensures) ∙ (ap not c.if-not-all_cells_within.false)))
 
-  -- the number that `diagonalise` refuses with is the first that applies
-  refused : (k : ℕ) → Diagonalised start₃.args.c (Err k) → Checked (conditions start₃) (Refused k)
+  -- what `diagonalise` refuses with is the first that applies
+  refused : (r : Refusal) → Diagonalised start₃.args.c (Err r) → Checked (conditions start₃) (Err r)
   unfolding verdict_of found_at_lem HoldsAt
-  refused k =
+  refused r =
       ⊎_elim
-      (λ x. subst (λ j. Checked (conditions start₃) (Refused j)) (sym x.0) (refuse _ 3 past₃ (so x.1) (Refused 7) refl))
-      (λ x. subst (λ j. Checked (conditions start₃) (Refused j)) (sym x.0) (refuse _ 4 (pass (conditions start₃) 3 past₃ (not_so x.1)) x.2 (Refused 8) refl))
+      (λ x. subst (λ j. Checked (conditions start₃) (Err j)) (sym x.0) (refuse _ 3 past₃ (so x.1) (Err Determinant) refl))
+      (λ x. subst (λ j. Checked (conditions start₃) (Err j)) (sym x.0) (refuse _ 4 (pass (conditions start₃) 3 past₃ (not_so x.1)) x.2 (Err Diagonalisation) refl))
 
   -- past `diagonalise`, where m copies are counted
   module _ (good : bad_copies start₃.args.c ≡ false) (stays : Leaves start₃.args.c → ⊥) {m : ℕ} (count : m ≡ copies start₃.args.c) where
@@ -78,33 +80,33 @@ module _ (c : Else-not-all_cells_within) where
 
 pub returns-then-bad_counts : goal.returns-then-bad_counts
 unfolding verdict_of found_at_lem Passed HoldsAt
-returns-then-bad_counts c = refuse _ 0 tt (so (sym c.bad_counts.ensures ∙ c.if-bad_counts.true)) (Refused 2) refl
+returns-then-bad_counts c = refuse _ 0 tt (so (sym c.bad_counts.ensures ∙ c.if-bad_counts.true)) (Err Counts) refl
 
 pub returns-then-not-in_range : goal.returns-then-not-in_range
 unfolding verdict_of found_at_lem HoldsAt
-returns-then-not-in_range c = refuse _ 1 (past₁ (goal.at.returns-then-not-in_range c).Else-bad_counts) (so (ap not (sym c.in_range.ensures) ∙ (ap not c.if-not-in_range.true))) (Refused 3) refl
+returns-then-not-in_range c = refuse _ 1 (past₁ (goal.at.returns-then-not-in_range c).Else-bad_counts) (so (ap not (sym c.in_range.ensures) ∙ (ap not c.if-not-in_range.true))) (Err MatrixEntry) refl
 
 pub returns-then-not-all_cells_within : goal.returns-then-not-all_cells_within
 unfolding verdict_of found_at_lem HoldsAt
-returns-then-not-all_cells_within c = refuse _ 2 (past₂ (goal.at.returns-then-not-all_cells_within c).Else-not-in_range) (so (ap not (sym c.all_cells_within.ensures) ∙ (ap not c.if-not-all_cells_within.true))) (Refused 4) refl
+returns-then-not-all_cells_within c = refuse _ 2 (past₂ (goal.at.returns-then-not-all_cells_within c).Else-not-in_range) (so (ap not (sym c.all_cells_within.ensures) ∙ (ap not c.if-not-all_cells_within.true))) (Err FloatRange) refl
 
 pub returns-in_err-ends : goal.returns-in_err-ends
 returns-in_err-ends c =
-    err_case _ _ c.from_residual.result _ (refused (goal.at.returns-in_err-ends c).Else-not-all_cells_within c.in_err-ends.field-0.0 c.in_err-ends.ensures) c.from_residual.ensures.1
+    err_case (EndedOr (conditions (goal.at.returns-in_err-ends c).Start) c.args.c) c.from_residual.result _ (refused (goal.at.returns-in_err-ends c).Else-not-all_cells_within c.in_err-ends.field-0.0 c.in_err-ends.ensures) c.from_residual.ensures.1
 
 pub returns-then-listed-gt-MOST_LISTED : goal.returns-then-listed-gt-MOST_LISTED
 unfolding verdict_of found_at_lem HoldsAt
 returns-then-listed-gt-MOST_LISTED c =
     let p = (goal.at.returns-then-listed-gt-MOST_LISTED c).Else-not-all_cells_within in
     let e = c.in_ok-ends.ensures in
-    refuse _ 5 (past₅ p e.0 e.1 c.copies.ensures) (so (sym (many p e.0 e.1 c.copies.ensures) ∙ lt-ltb _ _ c.if-listed-gt-MOST_LISTED.true)) (Refused 9) refl
+    refuse _ 5 (past₅ p e.0 e.1 c.copies.ensures) (so (sym (many p e.0 e.1 c.copies.ensures) ∙ lt-ltb _ _ c.if-listed-gt-MOST_LISTED.true)) (Err ListedSites) refl
 
 pub returns-then-short : goal.returns-then-short
 unfolding verdict_of found_at_lem HoldsAt
 returns-then-short c =
     let p = (goal.at.returns-then-short c).Else-not-all_cells_within in
     let e = c.in_ok-ends.ensures in
-    refuse _ 6 (past₆ p e.0 e.1 c.copies.ensures (le-ltb _ _ c.if-listed-gt-MOST_LISTED.false)) (so (sym (tight p e.0 e.1 c.copies.ensures) ∙ sym c.short.ensures ∙ c.if-short.true)) (Refused 10) refl
+    refuse _ 6 (past₆ p e.0 e.1 c.copies.ensures (le-ltb _ _ c.if-listed-gt-MOST_LISTED.false)) (so (sym (tight p e.0 e.1 c.copies.ensures) ∙ sym c.short.ensures ∙ c.if-short.true)) (Err Buffer) refl
 
 pub returns : goal.returns
 unfolding verdict_of found_none HoldsAt

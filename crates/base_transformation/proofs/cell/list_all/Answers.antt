@@ -10,6 +10,6 @@ pub returns-clause-listed : goal.returns-clause-listed
 returns-clause-listed c =
     let a = c.args in
     subst
-    (λ (fs : List (List ℤ)). CopiesListed a.c fs a.elements.now a.positions.now (held a.listing.now) (held c.list.new.self))
+    (λ (fs : List (List ℤ)). CopiesListed a.c fs a.elements.now a.positions.now (held a.listing.now) (held c.list_copies.new.listing))
     (front_is (points_of a.ends.d a.ends.l) c.list_points.new.out 64 c.copies-m.result c.list_points.ensures (c.requires.1 ∙ sym c.copies-m.ensures))
-    c.list.ensures.listed
+    c.list_copies.ensures.listed

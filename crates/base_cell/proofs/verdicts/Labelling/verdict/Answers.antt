@@ -1,6 +1,7 @@
 -- `verdict`: each return has tested what comes before it.
 use Rattle.std.proofs.Common.{refl, sym, ◌∙◌, List, [], ◌∷◌}
-use Rattle.definitions.specs.declared.Verdict.TheVariants.{Refused}
+use Rattle.std.specs.Prelude.{Err}
+use Rattle.definitions.specs.declared.Refusal.TheVariants.{Counts, SiteImage, ListedSites, Buffer}
 use Rattle.definitions.specs.Refusal.{Condition}
 use Rattle.definitions.specs.SiteCalls.{label_conditions}
 use Rattle.laws.specs.Tests.{so, not_so}
@@ -42,20 +43,20 @@ module _ (c : Else-lists_too_many) where
 
 pub returns-then-bad_counts : goal.returns-then-bad_counts
 unfolding verdict_of found_at_lem Passed HoldsAt
-returns-then-bad_counts c = refuse _ 0 tt (so (sym c.bad_counts.ensures ∙ c.if-bad_counts.true)) (Refused 2) refl
+returns-then-bad_counts c = refuse _ 0 tt (so (sym c.bad_counts.ensures ∙ c.if-bad_counts.true)) (Err Counts) refl
 
 pub returns-then-bad_sites : goal.returns-then-bad_sites
 unfolding verdict_of found_at_lem HoldsAt
-returns-then-bad_sites c = refuse _ 1 (past₁ (goal.at.returns-then-bad_sites c).Else-bad_counts) (so (sym c.bad_sites.ensures ∙ c.if-bad_sites.true)) (Refused 5) refl
+returns-then-bad_sites c = refuse _ 1 (past₁ (goal.at.returns-then-bad_sites c).Else-bad_counts) (so (sym c.bad_sites.ensures ∙ c.if-bad_sites.true)) (Err SiteImage) refl
 
 pub returns-then-lists_too_many : goal.returns-then-lists_too_many
 unfolding verdict_of found_at_lem HoldsAt
-returns-then-lists_too_many c = refuse _ 2 (past₂ (goal.at.returns-then-lists_too_many c).Else-bad_sites) (so (sym c.lists_too_many.ensures ∙ c.if-lists_too_many.true)) (Refused 9) refl
+returns-then-lists_too_many c = refuse _ 2 (past₂ (goal.at.returns-then-lists_too_many c).Else-bad_sites) (so (sym c.lists_too_many.ensures ∙ c.if-lists_too_many.true)) (Err ListedSites) refl
 
 pub returns-then-lacks_room : goal.returns-then-lacks_room
 unfolding verdict_of found_at_lem HoldsAt
 returns-then-lacks_room c =
-    refuse _ 3 (past₃ (goal.at.returns-then-lacks_room c).Else-lists_too_many) (so (sym c.lacks_room.ensures ∙ c.if-lacks_room.true)) (Refused 10) refl
+    refuse _ 3 (past₃ (goal.at.returns-then-lacks_room c).Else-lists_too_many) (so (sym c.lacks_room.ensures ∙ c.if-lacks_room.true)) (Err Buffer) refl
 
 pub returns : goal.returns
 unfolding verdict_of found_none HoldsAt
