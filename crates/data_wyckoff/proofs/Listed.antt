@@ -10,11 +10,12 @@ use lib.Dec.{T}
 use lib.Ieee.{Float}
 use lib.ListN.{length, get_or, set, take, drop, length-set, length-append, length-map, length-take}
 use lib.Seq.{take-suc, drop-cons, set-append_seam}
-use Rattle.definitions.specs.declared.Verdict.{Verdict}
-use Rattle.definitions.specs.declared.Verdict.TheVariants.{Accepted, Refused}
+use Rattle.std.specs.Prelude.{Err, Ok}
+use Rattle.definitions.specs.declared.Refusal.TheVariants.{Coordinates, Diagonalisation}
 use Rattle.definitions.specs.Lent.{position_from, cells_of}
 use Rattle.definitions.specs.Lists.{any, Some}
-use Rattle.definitions.specs.Refusal.{Condition, ◌when◌, coordinates, diagonalisation, Checked, Returns, Applies, upto, precedence}
+use Rattle.definitions.specs.Refusal.{Condition, ◌when◌, coordinates, diagonalisation, number, Verdict, Checked, Returns}
+use Rattle.definitions.specs.Refusal.{Applies, upto, precedence}
 use Rattle.definitions.specs.Matrix.{Matrix}
 use Rattle.definitions.specs.SiteCalls.{SpaceCells, space_from, SpaceLent}
 use Rattle.definitions.specs.Snf.{State}
@@ -22,7 +23,7 @@ use Rattle.definitions.specs.Standardize.{TextLeaves}
 use Rattle.definitions.specs.Coordinates.{Readable}
 use Rattle.definitions.specs.Wyckoff.{Space, IsSpace, AreSpaces}
 use Rattle.laws.specs.Order.{numbered, FailAll, past, FailBefore, past_before, applies_last}
-use Rattle.laws.specs.Verdicts.{HoldsAt, Passed, found_at_lem, found_none, refuse, accept, verdict_of}
+use Rattle.laws.specs.Verdicts.{HoldsAt, Passed, found_at_lem, found_none, refuse, accept, verdict_of, number_one}
 use Rattle.data_wyckoff.specs.declared.space.Space as code
 use Rattle.data_wyckoff.specs.Spaces.{PreparesAs, written, PutSpace, put_at, first_of, texts_conditions, Stored, StoredSpaces, PutSpaces}
 
@@ -32,31 +33,33 @@ abbrev six_eight : Type 0 → Type 0 → List Condition
 six_eight P Q = (coordinates when P) ∷ (diagonalisation when Q) ∷ []
 
 pub data Found (P Q : Type 0) : Verdict → Type 0 where
-  neither : (P → ⊥) → (Q → ⊥) → Found P Q Accepted
-  six : P → Found P Q (Refused 6)
-  eight : (P → ⊥) → Q → Found P Q (Refused 8)
+  neither : (P → ⊥) → (Q → ⊥) → Found P Q (Ok tt)
+  six : P → Found P Q (Err Coordinates)
+  eight : (P → ⊥) → Q → Found P Q (Err Diagonalisation)
 
 module _ {P Q : Type 0} where
   pub found : (v : Verdict) → Checked (six_eight P Q) v → Found P Q v
   unfolding numbered FailAll Checked Returns Applies FailBefore any upto precedence
-  found Accepted c = let f = past (six_eight P Q) tt c in neither f.0 f.1.0
-  found (Refused k) c = ⊎_elim first second (applies_last ((coordinates when P) ∷ []) (diagonalisation when Q) k c.0)
+  found (Ok u) c = let f = past (six_eight P Q) tt c in neither f.0 f.1.0
+  found (Err k) c =
+      ⊎_elim first second (applies_last ((coordinates when P) ∷ []) (diagonalisation when Q) (number k) c.0)
     where
-      first : Applies ((coordinates when P) ∷ []) k → Found P Q (Refused k)
+      first : Applies ((coordinates when P) ∷ []) (number k) → Found P Q (Err k)
       first a =
-          ⊎_elim (λ n. absurd n) (λ h. subst (λ n. Found P Q (Refused n)) h.0 (six h.1))
-          (applies_last [] (coordinates when P) k a)
+          ⊎_elim (λ n. absurd n) (λ h. subst (λ n. Found P Q (Err n)) (number_one Coordinates k h.0) (six h.1))
+          (applies_last [] (coordinates when P) (number k) a)
 
-      second : (8 ≡ k) × Q → Found P Q (Refused k)
+      second : (8 ≡ number k) × Q → Found P Q (Err k)
       second h =
-          let b = past_before k (six_eight P Q) c.1 in
-          subst (λ n. Found P Q (Refused n)) h.0 (eight ((subst (λ n. FailBefore n (six_eight P Q)) (sym h.0) b).0 tt) h.1)
+          let b = past_before (number k) (six_eight P Q) c.1 in
+          subst (λ n. Found P Q (Err n)) (number_one Diagonalisation k h.0)
+          (eight ((subst (λ n. FailBefore n (six_eight P Q)) (sym h.0) b).0 tt) h.1)
 
   checked_found : (v : Verdict) → Found P Q v → Checked (six_eight P Q) v
   unfolding verdict_of found_at_lem found_none Passed HoldsAt
   checked_found v (neither p q) = accept (six_eight P Q) (p, (q, tt)) refl
-  checked_found v (six p) = refuse (six_eight P Q) 0 tt p (Refused 6) refl
-  checked_found v (eight p q) = refuse (six_eight P Q) 1 (p, tt) q (Refused 8) refl
+  checked_found v (six p) = refuse (six_eight P Q) 0 tt p (Err Coordinates) refl
+  checked_found v (eight p q) = refuse (six_eight P Q) 1 (p, tt) q (Err Diagonalisation) refl
 
   -- of both
   joined : {P' Q' : Type 0} (v w : Verdict) → Found P Q v → Found P' Q' w → Found (P ⊎ P') (Q ⊎ Q') (first_of v w)
@@ -113,13 +116,13 @@ module _ (ts : List (List ℕ)) (t : List ℕ) (v w : Verdict) where
 
 -- both are accepted
 abbrev pub is_accepted : Verdict → Bool
-is_accepted Accepted = true
-is_accepted (Refused k) = false
+is_accepted (Ok u) = true
+is_accepted (Err k) = false
 
-both_accepted : (v w : Verdict) → first_of v w ≡ Accepted → (v ≡ Accepted) × (w ≡ Accepted)
-both_accepted Accepted w e = (refl, e)
-both_accepted (Refused j) Accepted e = absurd (subst (λ u. T (is_accepted u)) (sym e) tt)
-both_accepted (Refused j) (Refused k) e = absurd (subst (λ u. T (is_accepted u)) (sym e) tt)
+both_accepted : (v w : Verdict) → first_of v w ≡ (Ok tt) → (v ≡ (Ok tt)) × (w ≡ (Ok tt))
+both_accepted (Ok u) w e = (refl, e)
+both_accepted (Err j) (Ok u) e = absurd (subst (λ u. T (is_accepted u)) (sym e) tt)
+both_accepted (Err j) (Err k) e = absurd (subst (λ u. T (is_accepted u)) (sym e) tt)
 
 -- ---- the lists
 
@@ -161,8 +164,8 @@ stored_put e x ss s i n h =
 cells_back :
     (text : List ℕ) (m : Matrix) (q : List Float) (s : State) (v : Verdict) → SpaceLent text m q s v →
     cells_of (position_from q) ≡ q
-cells_back text m q s Accepted l = l.1
-cells_back text m q s (Refused k) l = subst (λ w. cells_of (position_from w) ≡ w) (sym l.1) refl
+cells_back text m q s (Ok u) l = l.1
+cells_back text m q s (Err k) l = subst (λ w. cells_of (position_from w) ≡ w) (sym l.1) refl
 
 pub put_one :
     (text : List ℕ) (i : ℕ) (e y : SpaceCells) (s : code.Space) (v : Verdict) → PreparesAs text s v → y ≡ written e i s →
@@ -181,13 +184,13 @@ put_one text i e y s v p w =
 
 -- ---- the loop
 
-pub put_none : (e : SpaceCells) → PutSpaces [] e e Accepted
+pub put_none : (e : SpaceCells) → PutSpaces [] e e (Ok tt)
 unfolding Some AreSpaces
 put_none e =
     record {
       spaces = [];
       count = refl;
-      checked = checked_found Accepted (neither (λ s. s) (λ s. s));
+      checked = checked_found (Ok tt) (neither (λ s. s) (λ s. s));
       right = λ t. tt;
       stored =
           record {

@@ -6,12 +6,13 @@ use mathlib.Core.List.{List, [], ◌∷◌, map}
 use lib.Dec.{T}
 use lib.ListN.{length, length-map}
 use borrow.Author.Tests.{ltb-false}
-use Rattle.definitions.specs.declared.Verdict.{Verdict}
-use Rattle.definitions.specs.declared.Verdict.TheVariants.{Accepted, Refused}
+use Rattle.std.specs.Prelude.{Err, Ok}
+use Rattle.definitions.specs.declared.Refusal.{Refusal}
+use Rattle.definitions.specs.declared.Refusal.TheVariants.{Counts, Coordinates, Diagonalisation, Buffer}
 use Rattle.definitions.specs.Lent.{cells_of, zero_cells, zero_matrix}
 use Rattle.definitions.specs.Limits.{too_many_candidates, shorter_than}
 use Rattle.definitions.specs.Lists.{any, Some}
-use Rattle.definitions.specs.Refusal.{Checked, padded}
+use Rattle.definitions.specs.Refusal.{Verdict, Checked, padded}
 use Rattle.definitions.specs.SiteCalls.{SpaceCells, space_rooms, HoldsSpaces, prepare_all_conditions, PrepareAllPromise}
 use Rattle.definitions.specs.Standardize.{BadCoordinates, TextLeaves}
 use Rattle.definitions.specs.Wyckoff.{Space, AreSpaces}
@@ -26,11 +27,11 @@ use Rattle.data_wyckoff.proofs.Listed.{is_accepted, Found, neither, six, eight, 
 -- ---- the verdict
 
 module _ (texts : List (List ℕ)) (e : SpaceCells) where
-  judged-many : too_many_candidates (length texts) ≡ true → Checked (prepare_all_conditions texts (space_rooms e)) (Refused 2)
+  judged-many : too_many_candidates (length texts) ≡ true → Checked (prepare_all_conditions texts (space_rooms e)) (Err Counts)
   unfolding verdict_of found_at_lem Passed HoldsAt
-  judged-many h = refuse (prepare_all_conditions texts (space_rooms e)) 0 tt (so h) (Refused 2) refl
+  judged-many h = refuse (prepare_all_conditions texts (space_rooms e)) 0 tt (so h) (Err Counts) refl
 
-  pub too_many : too_many_candidates (length texts) ≡ true → Judged texts e e (Refused 2)
+  pub too_many : too_many_candidates (length texts) ≡ true → Judged texts e e (Err Counts)
   too_many h =
       record {
         checked = judged-many h;
@@ -45,16 +46,16 @@ module _ (texts : List (List ℕ)) (e : SpaceCells) where
         Checked (prepare_all_conditions texts (space_rooms e)) (with_room v short)
     unfolding verdict_of found_at_lem found_none Passed HoldsAt
     judged_by v true (neither p q) r =
-        refuse (prepare_all_conditions texts (space_rooms e)) 3 (not_so few, (p, (q, tt))) (so r) (Refused 10) refl
+        refuse (prepare_all_conditions texts (space_rooms e)) 3 (not_so few, (p, (q, tt))) (so r) (Err Buffer) refl
     judged_by v false (neither p q) r =
         accept (prepare_all_conditions texts (space_rooms e)) (not_so few, (p, (q, (not_so r, tt)))) refl
-    judged_by v short (six p) r = refuse (prepare_all_conditions texts (space_rooms e)) 1 (not_so few, tt) p (Refused 6) refl
+    judged_by v short (six p) r = refuse (prepare_all_conditions texts (space_rooms e)) 1 (not_so few, tt) p (Err Coordinates) refl
     judged_by v short (eight p q) r =
-        refuse (prepare_all_conditions texts (space_rooms e)) 2 (not_so few, (p, tt)) q (Refused 8) refl
+        refuse (prepare_all_conditions texts (space_rooms e)) 2 (not_so few, (p, tt)) q (Err Diagonalisation) refl
 
-    accepted-before : (v : Verdict) (short : Bool) → with_room v short ≡ Accepted → v ≡ Accepted
-    accepted-before Accepted short told = refl
-    accepted-before (Refused k) short told = absurd (subst (λ u. T (is_accepted u)) (sym told) tt)
+    accepted-before : (v : Verdict) (short : Bool) → with_room v short ≡ (Ok tt) → v ≡ (Ok tt)
+    accepted-before (Ok u) short told = refl
+    accepted-before (Err k) short told = absurd (subst (λ u. T (is_accepted u)) (sym told) tt)
 
     pub judged :
         (x : SpaceCells) (v r : Verdict) (short : Bool) → PutSpaces texts e x v →
@@ -153,7 +154,7 @@ module _ (texts : List (List ℕ)) (e x y : SpaceCells) (v : Verdict) (j : Judge
       }
 
   -- the five lists with the spaces in front, and zero behind them
-  pub keep-accepted : v ≡ Accepted → Cut (length texts) x y → PrepareAllPromise texts e y v
+  pub keep-accepted : v ≡ (Ok tt) → Cut (length texts) x y → PrepareAllPromise texts e y v
   unfolding numbered FailAll
   keep-accepted told k =
       let c = subst (Checked (prepare_all_conditions texts (space_rooms e))) told j.checked in
@@ -164,7 +165,7 @@ module _ (texts : List (List ℕ)) (e x y : SpaceCells) (v : Verdict) (j : Judge
       p.spaces c (p.right told) (holds_all p (off _ fails.1.1.1.0) k))
 
   -- the five lists zero
-  pub keep_refused : {n : ℕ} → v ≡ Refused n → Cut 0 x y → PrepareAllPromise texts e y v
+  pub keep_refused : {n : Refusal} → v ≡ Err n → Cut 0 x y → PrepareAllPromise texts e y v
   keep_refused {n} told k =
       subst (PrepareAllPromise texts e y) (sym told)
       (promise_refused (prepare_all_conditions texts (space_rooms e)) (AreSpaces texts) (HoldsSpaces e y) (HoldsSpaces e y []) n

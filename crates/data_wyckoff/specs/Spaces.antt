@@ -1,11 +1,11 @@
 -- What the parts of the calls that prepare candidates promise: one candidate, one at its place of the lent lists, and
 -- the first ones of a list.
-use Rattle.std.specs.Prelude.{ℕ, ◌≤◌, ◌≡◌, Bool, cond, List, [], ◌∷◌, ◌++◌, map, min, length, set, take, drop, Result, Ok, Err}
-use Rattle.definitions.specs.declared.Verdict.{Verdict}
-use Rattle.definitions.specs.declared.Verdict.TheVariants.{Accepted, Refused}
+use Rattle.std.specs.Prelude.{ℕ, ◌≤◌, ◌≡◌, Bool, cond, List, [], ◌∷◌, ◌++◌, map, leb, length, set, take, drop, Result, Ok, Err}
+use Rattle.definitions.specs.declared.Refusal.{Refusal}
+use Rattle.definitions.specs.declared.Refusal.TheVariants.{Buffer}
 use Rattle.definitions.specs.Lent.{cells_of, zero_cells, zero_matrix}
 use Rattle.definitions.specs.Lists.{Some}
-use Rattle.definitions.specs.Refusal.{Condition, ◌when◌, coordinates, diagonalisation, Checked, padded}
+use Rattle.definitions.specs.Refusal.{Condition, ◌when◌, coordinates, diagonalisation, number, Verdict, Checked, padded}
 use Rattle.definitions.specs.SiteCalls.{prepare_conditions, prepare_all_conditions, SpaceCells, space_rooms, PreparePromise}
 use Rattle.definitions.specs.Standardize.{BadCoordinates, TextLeaves}
 use Rattle.definitions.specs.Wyckoff.{Space, IsSpace, AreSpaces}
@@ -18,9 +18,9 @@ use Rattle.data_wyckoff.specs.declared.space.Spaces.{Spaces}
 abbrev pub PreparesAs : List ℕ → code.Space → Verdict → Type 0
 PreparesAs text s = PreparePromise text s.matrix s.shift (record { d = s.d; l = s.l; r = s.r })
 
-abbrev pub SpaceOr : List ℕ → Result code.Space ℕ → Type 0
-SpaceOr text (Ok s) = PreparesAs text s Accepted
-SpaceOr text (Err k) = Checked (prepare_conditions text) (Refused k)
+abbrev pub SpaceOr : List ℕ → Result code.Space Refusal → Type 0
+SpaceOr text (Ok s) = PreparesAs text s (Ok tt)
+SpaceOr text (Err k) = Checked (prepare_conditions text) (Err k)
 
 -- ---- a list of candidates
 
@@ -63,14 +63,14 @@ put_at e i s =
 pub record PutSpace (text : List ℕ) (i : ℕ) (entry exit : SpaceCells) (v : Verdict) : Type 0 where
   pub space : Space
   pub checked : Checked (prepare_conditions text) v
-  pub right : v ≡ Accepted → IsSpace text space
+  pub right : v ≡ (Ok tt) → IsSpace text space
   pub stored : exit ≡ put_at entry i space
 
 -- of two refusals, one of some candidates and one of another: "The lowest number that applies is returned"
 abbrev pub first_of : Verdict → Verdict → Verdict
-first_of Accepted w = w
-first_of (Refused j) Accepted = Refused j
-first_of (Refused j) (Refused k) = Refused (min j k)
+first_of (Ok u) w = w
+first_of (Err j) (Ok u) = Err j
+first_of (Err j) (Err k) = Err (cond (leb (number j) (number k)) j k)
 
 -- what the candidates alone decide: 6, 8
 abbrev pub texts_conditions : List (List ℕ) → List Condition
@@ -93,13 +93,13 @@ pub record PutSpaces (texts : List (List ℕ)) (entry exit : SpaceCells) (v : Ve
   pub spaces : List Space
   pub count : length spaces ≡ length texts
   pub checked : Checked (texts_conditions texts) v
-  pub right : v ≡ Accepted → AreSpaces texts spaces
+  pub right : v ≡ (Ok tt) → AreSpaces texts spaces
   pub stored : StoredSpaces entry exit spaces
 
 -- 10, behind them
 abbrev pub with_room : Verdict → Bool → Verdict
-with_room Accepted short = cond short (Refused 10) Accepted
-with_room (Refused k) short = Refused k
+with_room (Ok u) short = cond short (Err Buffer) (Ok tt)
+with_room (Err k) short = Err k
 
 -- the lists are as long as they were
 pub record SameRooms (entry exit : SpaceCells) : Type 0 where
@@ -113,7 +113,7 @@ pub record SameRooms (entry exit : SpaceCells) : Type 0 where
 pub record Judged (texts : List (List ℕ)) (entry exit : SpaceCells) (v : Verdict) : Type 0 where
   pub checked : Checked (prepare_all_conditions texts (space_rooms entry)) v
   pub rooms : SameRooms entry exit
-  pub put : v ≡ Accepted → PutSpaces texts entry exit v
+  pub put : v ≡ (Ok tt) → PutSpaces texts entry exit v
 
 -- zero from the place n on
 abbrev pub Cut : ℕ → SpaceCells → SpaceCells → Type 0

@@ -13,7 +13,7 @@ ghost use Rattle.data_wyckoff.specs.Scan.{axis_after, digit_after, slash_after, 
 ghost use Rattle.data_wyckoff.specs.Scan.{row_of, end_of, term_at};
 ghost use Rattle.data_wyckoff.specs.Terms.{entries_of, ReadAs};
 
-use definitions::{Cells, Rotation, Text, Verdict, refusal};
+use definitions::{Cells, Refusal, Rotation, Text, Verdict};
 
 // What was read last of a term: nothing, a sign (true: `-`), a sign and a digit, these and a `/`, or an item.
 #[derive(Clone, Copy)]
@@ -295,12 +295,12 @@ pub fn read_coordinates(text: &Text, rows: &mut Rotation, origin: &mut Cells) ->
             let (m, q) = read;
             *rows = m;
             *origin = q;
-            Verdict::Accepted
+            Ok(())
         }
         None => {
             *rows = [[0; 3]; 3];
             *origin = [0.0; 3];
-            Verdict::Refused(refusal::COORDINATES)
+            Err(Refusal::Coordinates)
         }
     }
 }

@@ -2,13 +2,13 @@
 ghost use Rattle.std.specs.Prelude.{◌≡◌, set};
 ghost use Rattle.std.specs.List.{list_any};
 ghost use Rattle.definitions.specs.Limits.{shorter_than};
-ghost use Rattle.definitions.specs.SiteCalls.{PreparePromise, PrepareAllPromise, space_rooms};
-ghost use Rattle.data_wyckoff.specs.Spaces.{SpaceOr, PreparesAs, lists, SameLists, written, PutSpace, first_of};
+ghost use Rattle.definitions.specs.SiteCalls.{PrepareAllPromise, space_rooms};
+ghost use Rattle.data_wyckoff.specs.Spaces.{SpaceOr, PreparesAs, lists, SameRooms, SameLists, written, PutSpace, first_of};
 ghost use Rattle.data_wyckoff.specs.Spaces.{PutSpaces, with_room, Judged, Cut};
 
 use crate::read_terms;
 use definitions::limits::MOST_CANDIDATES;
-use definitions::{Cells, Rotation, SnfMatrix, Text, Verdict, refusal};
+use definitions::{Cells, Refusal, Rotation, SnfMatrix, Text, Verdict};
 use lent::clear;
 use math_snf::snf;
 
@@ -16,35 +16,33 @@ use math_snf::snf;
 
 // A candidate's M and q with D, L and R of M: one preparation serves every position.
 #[derive(Clone, Copy)]
-struct Space {
-    matrix: Rotation,
-    shift: Cells,
-    d: SnfMatrix,
-    l: SnfMatrix,
-    r: SnfMatrix,
+pub struct Space {
+    pub matrix: Rotation,
+    pub shift: Cells,
+    pub d: SnfMatrix,
+    pub l: SnfMatrix,
+    pub r: SnfMatrix,
 }
 
-// M and q, read, and D, L, R of M; or the number of what refuses them
-fn read_space(text: &Text) -> Result<Space, usize>
+// M and q, read, and D, L, R of M; or what refuses them
+fn read_space(text: &Text) -> Result<Space, Refusal>
     ensures { SpaceOr text.now result }
 {
     let Some(read) = read_terms(*text) else {
-        return Err(refusal::COORDINATES);
+        return Err(Refusal::Coordinates);
     };
     let (matrix, shift) = read;
     let mut d = [[0; 3]; 3];
     let mut l = [[0; 3]; 3];
     let mut r = [[0; 3]; 3];
-    match snf(matrix, &mut d, &mut l, &mut r) {
-        Verdict::Accepted => Ok(Space {
-            matrix,
-            shift,
-            d,
-            l,
-            r,
-        }),
-        Verdict::Refused(k) => Err(k),
-    }
+    snf(matrix, &mut d, &mut l, &mut r)?;
+    Ok(Space {
+        matrix,
+        shift,
+        d,
+        l,
+        r,
+    })
 }
 
 // What the caller's lists and matrices are to hold: zero where it is refused.
@@ -52,7 +50,7 @@ fn lent_space(text: &Text) -> (Space, Verdict)
     ensures { PreparesAs text.now result.0 result.1 }
 {
     match read_space(text) {
-        Ok(space) => (space, Verdict::Accepted),
+        Ok(space) => (space, Ok(())),
         Err(k) => {
             let zero = Space {
                 matrix: [[0; 3]; 3],
@@ -61,36 +59,17 @@ fn lent_space(text: &Text) -> (Space, Verdict)
                 l: [[0; 3]; 3],
                 r: [[0; 3]; 3],
             };
-            (zero, Verdict::Refused(k))
+            (zero, Err(k))
         }
     }
 }
 
-// A candidate, for the caller's five matrices.
-pub fn prepare(
-    text: &Text,
-    matrix: &mut Rotation,
-    shift: &mut Cells,
-    d: &mut SnfMatrix,
-    l: &mut SnfMatrix,
-    r: &mut SnfMatrix,
-) -> Verdict
-    ensures { PreparePromise text.now matrix.new shift.new
-        (record { d = d.new; l = l.new; r = r.new }) result }
+// A candidate, for the caller.
+pub fn prepare(text: &Text, space: &mut Space) -> Verdict
+    ensures { PreparesAs text.now space.new result }
 {
-    let (space, verdict) = lent_space(text);
-    let Space {
-        matrix: linear,
-        shift: origin,
-        d: diagonal,
-        l: left,
-        r: right,
-    } = space;
-    *matrix = linear;
-    *shift = origin;
-    *d = diagonal;
-    *l = left;
-    *r = right;
+    let (prepared, verdict) = lent_space(text);
+    *space = prepared;
     verdict
 }
 
@@ -110,10 +89,10 @@ fn first_of(v: Verdict, w: Verdict) -> Verdict
     ensures { result ≡ first_of v w }
 {
     match v {
-        Verdict::Accepted => w,
-        Verdict::Refused(j) => match w {
-            Verdict::Accepted => Verdict::Refused(j),
-            Verdict::Refused(k) => Verdict::Refused(j.min(k)),
+        Ok(()) => w,
+        Err(j) => match w {
+            Ok(()) => Err(j),
+            Err(k) => Err(j.min(k)),
         },
     }
 }
@@ -128,30 +107,27 @@ fn lack_room(n: usize, rooms: [usize; 5]) -> bool
 fn with_room(v: Verdict, short: bool) -> Verdict
     ensures { result ≡ with_room v short }
 {
-    match v {
-        Verdict::Accepted => {
-            if short {
-                return Verdict::Refused(refusal::BUFFER);
-            }
-            Verdict::Accepted
-        }
-        Verdict::Refused(k) => Verdict::Refused(k),
+    v?;
+    if short {
+        return Err(Refusal::Buffer);
     }
+    Ok(())
 }
 
 // The five lists that a caller lends: an entry a candidate in each.
 #[derive(Drop)]
-struct Spaces<'a> {
-    matrices: &'a mut [Rotation],
-    shifts: &'a mut [Cells],
-    ds: &'a mut [SnfMatrix],
-    ls: &'a mut [SnfMatrix],
-    rs: &'a mut [SnfMatrix],
+pub struct Spaces<'a> {
+    pub matrices: &'a mut [Rotation],
+    pub shifts: &'a mut [Cells],
+    pub ds: &'a mut [SnfMatrix],
+    pub ls: &'a mut [SnfMatrix],
+    pub rs: &'a mut [SnfMatrix],
 }
 
 impl<'a> Spaces<'a> {
     fn put(&mut self, i: usize, space: Space)
         ensures stored { lists self.new ≡ written (lists self.old) i space }
+        ensures rooms { SameRooms (lists self.old) (lists self.new) }
         ensures same_lists { SameLists self.old self.new }
     {
         put(self.matrices, i, space.matrix);
@@ -164,6 +140,7 @@ impl<'a> Spaces<'a> {
     // The candidate at place i.
     fn prepare(&mut self, i: usize, text: &Text) -> Verdict
         ensures stored { PutSpace text.now i (lists self.old) (lists self.new) result }
+        ensures rooms { SameRooms (lists self.old) (lists self.new) }
         ensures same_lists { SameLists self.old self.new }
     {
         let (space, verdict) = lent_space(text);
@@ -174,9 +151,10 @@ impl<'a> Spaces<'a> {
     // A later candidate may have a lower number: each is prepared, and once.
     fn prepare_each(&mut self, texts: &[Text]) -> Verdict
         ensures stored { PutSpaces texts.now (lists self.old) (lists self.new) result }
+        ensures rooms { SameRooms (lists self.old) (lists self.new) }
         ensures same_lists { SameLists self.old self.new }
     {
-        let mut v = Verdict::Accepted;
+        let mut v = Ok(());
         for (i, text) in texts.iter().enumerate() {
             let w = self.prepare(i, text);
             v = first_of(v, w);
@@ -199,10 +177,11 @@ impl<'a> Spaces<'a> {
     // 2, 6, 8, 10
     fn judge(&mut self, texts: &[Text]) -> Verdict
         ensures judged { Judged texts.now (lists self.old) (lists self.new) result }
+        ensures rooms { SameRooms (lists self.old) (lists self.new) }
         ensures same_lists { SameLists self.old self.new }
     {
         if MOST_CANDIDATES < texts.len() {
-            return Verdict::Refused(refusal::COUNTS);
+            return Err(Refusal::Counts);
         }
         let v = self.prepare_each(texts);
         with_room(v, lack_room(texts.len(), self.rooms()))
@@ -210,6 +189,7 @@ impl<'a> Spaces<'a> {
 
     fn clear(&mut self, n: usize)
         ensures cut { Cut n (lists self.old) (lists self.new) }
+        ensures rooms { SameRooms (lists self.old) (lists self.new) }
         ensures same_lists { SameLists self.old self.new }
     {
         clear(self.matrices, n);
@@ -221,41 +201,15 @@ impl<'a> Spaces<'a> {
 }
 
 // Every candidate of a list, once for all positions: an entry a candidate in each of the five lists.
-pub fn prepare_all(
-    texts: &[Text],
-    matrices: &mut [Rotation],
-    shifts: &mut [Cells],
-    ds: &mut [SnfMatrix],
-    ls: &mut [SnfMatrix],
-    rs: &mut [SnfMatrix],
-) -> Verdict
-    ensures { PrepareAllPromise texts.now
-        (record {
-          matrices = matrices.old;
-          shifts = shifts.old;
-          ds = ds.old;
-          ls = ls.old;
-          rs = rs.old;
-        })
-        (record {
-          matrices = matrices.new;
-          shifts = shifts.new;
-          ds = ds.new;
-          ls = ls.new;
-          rs = rs.new;
-        }) result }
+pub fn prepare_all(texts: &[Text], spaces: &mut Spaces) -> Verdict
+    ensures prepared { PrepareAllPromise texts.now (lists spaces.old) (lists spaces.new) result }
+    ensures rooms { SameRooms (lists spaces.old) (lists spaces.new) }
+    ensures same_lists { SameLists spaces.old spaces.new }
 {
-    let mut spaces = Spaces {
-        matrices,
-        shifts,
-        ds,
-        ls,
-        rs,
-    };
     let v = spaces.judge(texts);
     match v {
-        Verdict::Accepted => spaces.clear(texts.len()),
-        Verdict::Refused(_) => spaces.clear(0),
+        Ok(()) => spaces.clear(texts.len()),
+        Err(_) => spaces.clear(0),
     }
     v
 }

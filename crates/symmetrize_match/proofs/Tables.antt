@@ -10,8 +10,8 @@ use native.Mathlib.Omega.{arith}
 use lib.Seq.{ext_get_or}
 use lib.Ieee.{Float, nan, binary64, neg, of_bits, of_int, round}
 use Rattle.definitions.specs.declared.Position.{Position}
-use Rattle.definitions.specs.declared.Match.{Match}
-use Rattle.definitions.specs.declared.Match.TheVariants.{Fits, Misses}
+use Rattle.std.specs.Prelude.{Option, Some, None}
+use Rattle.definitions.specs.declared.Fit.{Fit}
 use Rattle.definitions.specs.Lists.{all, each, those}
 use Rattle.definitions.specs.Real.{RealMatrix, origin}
 use Rattle.definitions.specs.Cell.{point_of}
@@ -88,13 +88,13 @@ unfolding offsets all each those
 outer-count = refl
 
 -- the match by squares of a table's offsets
-module _ (symprec : Float) (f : Position → Float) (r : Match) where
-  pub near-inner :
+module _ (symprec : Float) (f : Position → Float) (r : Option Fit) where
+  near-inner :
       NearColumn symprec 1 26 (λ i. f (cell INNER.x INNER.y INNER.z i)) r → r ≡ first_near symprec 1 (map (λ o. f (point_of o)) (take 26 (drop 1 offsets)))
   near-inner c =
       c.near ∙ ap (first_near symprec 1) (by_table INNER.x INNER.y INNER.z (take 26 (drop 1 offsets)) inner_are f 26 c.squares inner-count c.column)
 
-  pub near-outer :
+  near-outer :
       NearColumn symprec 27 98 (λ i. f (cell OUTER.x OUTER.y OUTER.z i)) r → r ≡ first_near symprec 27 (map (λ o. f (point_of o)) (drop 27 offsets))
   near-outer c =
       c.near ∙ ap (first_near symprec 27) (by_table OUTER.x OUTER.y OUTER.z (drop 27 offsets) outer_are f 98 c.squares outer-count c.column)
@@ -105,32 +105,59 @@ module _ (symprec : Float) (f : List ℤ → Float) (k : ℕ) (os rest : List (L
   joined : first_near symprec k (map f (os ++ rest)) ≡ first_near symprec k (map f os ++ map f rest)
   joined = ap (first_near symprec k) (map-append f os rest)
 
-  module _ (m : Match) (e : m ≡ first_near symprec k (map f os)) where
-    pub part_fits : (i : ℕ) (d : Float) → m ≡ Fits i d → m ≡ first_near symprec k (map f (os ++ rest))
-    part_fits i d g = g ∙ sym (joined ∙ append_fits symprec (map f rest) k (map f os) i d (sym e ∙ g))
+  module _ (m : Option Fit) (e : m ≡ first_near symprec k (map f os)) where
+    part_fits : (x : Fit) → m ≡ Some x → m ≡ first_near symprec k (map f (os ++ rest))
+    part_fits x g = g ∙ sym (joined ∙ append_fits symprec (map f rest) k (map f os) x (sym e ∙ g))
 
-    pub part_misses :
-        (r : Match) (n : ℕ) → k + length os ≡ n → m ≡ Misses → r ≡ first_near symprec n (map f rest) →
+    part_misses :
+        (r : Option Fit) (n : ℕ) → k + length os ≡ n → m ≡ None → r ≡ first_near symprec n (map f rest) →
         r ≡ first_near symprec k (map f (os ++ rest))
     part_misses r n c g h =
         let z : k + length (map f os) ≡ n = omega (arith, length-map os f) in
         h ∙ sym (joined ∙ append_misses symprec (map f rest) k (map f os) (sym e ∙ g) ∙ ap (λ j. first_near symprec j (map f rest)) z)
 
 -- the first and the other inner ones
-pub inner_split : take 1 offsets ++ take 26 (drop 1 offsets) ≡ take 27 offsets
+inner_split : take 1 offsets ++ take 26 (drop 1 offsets) ≡ take 27 offsets
 unfolding offsets all each those
 inner_split = refl
 
-pub first_count : 0 + length (take 1 offsets) ≡ 1
+first_count : 0 + length (take 1 offsets) ≡ 1
 unfolding offsets all each those
 first_count = refl
 
 -- the inner and the outer ones
-pub inner_long : 0 + length (take 27 offsets) ≡ 27
+inner_long : 0 + length (take 27 offsets) ≡ 27
 unfolding offsets all each those
 inner_long = refl
 
-pub all_split : (basis : RealMatrix) (symprec : Float) (s : RealSpace) (p : Position) →
-    first_near symprec 0 (map (λ o. square_real basis s p (point_of o)) (take 27 offsets ++ drop 27 offsets)) ≡ match_real basis symprec s p
-unfolding match_real squares_real
-all_split basis symprec s p = ap (λ l. first_near symprec 0 (map (λ o. square_real basis s p (point_of o)) l)) (take-append-drop 27 offsets)
+-- ---- the runs, one behind the other
+
+module _ (basis : RealMatrix) (symprec : Float) (s : RealSpace) (p : Position) where
+  abbrev at_offset : List ℤ → Float
+  at_offset o = square_real basis s p (point_of o)
+
+  all_split : (n : ℕ) → first_near symprec 0 (map at_offset (take n offsets ++ drop n offsets)) ≡ match_real basis symprec s p
+  unfolding match_real squares_real
+  all_split n = ap (λ l. first_near symprec 0 (map at_offset l)) (take-append-drop n offsets)
+
+  module _ (m : Option Fit) (tried : m ≡ first_near symprec 0 (map at_offset (take 1 offsets))) where
+    pub first_fits : (x : Fit) → m ≡ Some x → Some x ≡ match_real basis symprec s p
+    first_fits x e = sym e ∙ part_fits symprec at_offset 0 (take 1 offsets) (drop 1 offsets) m tried x e ∙ all_split 1
+
+    module _ (missed : m ≡ None) (r : Option Fit) (inner : NearColumn symprec 1 26 (λ i. square_real basis s p (cell INNER.x INNER.y INNER.z i)) r) where
+      among_inner : r ≡ first_near symprec 0 (map at_offset (take 27 offsets))
+      among_inner =
+          part_misses symprec at_offset 0 (take 1 offsets) (take 26 (drop 1 offsets)) m tried r 1 first_count missed
+          (near-inner symprec (square_real basis s p) r inner)
+          ∙ ap (λ l. first_near symprec 0 (map at_offset l)) inner_split
+
+      pub inner_fits : (x : Fit) → r ≡ Some x → Some x ≡ match_real basis symprec s p
+      inner_fits x e = sym e ∙ part_fits symprec at_offset 0 (take 27 offsets) (drop 27 offsets) r among_inner x e ∙ all_split 27
+
+      pub outer_is :
+          r ≡ None → (t : Option Fit) → NearColumn symprec 27 98 (λ i. square_real basis s p (cell OUTER.x OUTER.y OUTER.z i)) t →
+          t ≡ match_real basis symprec s p
+      outer_is e t outer =
+          part_misses symprec at_offset 0 (take 27 offsets) (drop 27 offsets) r among_inner t 27 inner_long e
+          (near-outer symprec (square_real basis s p) t outer)
+          ∙ all_split 27

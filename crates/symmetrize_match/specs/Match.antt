@@ -11,8 +11,8 @@ use Rattle.std.specs.Float.Ieee.Fits.{down_pos}
 use Rattle.std.specs.Float.Ieee.Exact.{HasValue}
 use Rattle.std.specs.Float.Ieee.Back.{round_whole}
 use Rattle.definitions.specs.declared.Position.{Position}
-use Rattle.definitions.specs.declared.Match.{Match}
-use Rattle.definitions.specs.declared.Match.TheVariants.{Fits, Misses}
+use Rattle.std.specs.Prelude.{Option, Some, None}
+use Rattle.definitions.specs.declared.Fit.{Fit}
 use Rattle.definitions.specs.Matrix.{Matrix, at}
 use Rattle.definitions.specs.Real.{RealMatrix, zero_f, real_of, real, row_sum, apply_f, add_p, sub_p, sqrt}
 use Rattle.definitions.specs.Cell.{point_of}
@@ -51,10 +51,13 @@ square w = row_sum w.x w.y w.z w.x w.y w.z
 unfoldable pub square_real : RealMatrix → RealSpace → Position → Position → Float
 square_real basis s p o = square (apply_f basis (residual_real s o p))
 
+abbrev pub fit : ℕ → Float → Fit
+fit k d = record { place = k; distance = d }
+
 -- the first of the squares whose root is strictly below symprec, their places counted from k
-unfoldable pub first_near : Float → ℕ → List Float → Match
-first_near symprec k [] = Misses
-first_near symprec k (a ∷ l) = cond (lt (sqrt a) symprec) (Fits k (sqrt a)) (first_near symprec (suc k) l)
+unfoldable pub first_near : Float → ℕ → List Float → Option Fit
+first_near symprec k [] = None
+first_near symprec k (a ∷ l) = cond (lt (sqrt a) symprec) (Some (fit k (sqrt a))) (first_near symprec (suc k) l)
 
 -- what is no less than b has a root that is not below symprec
 pub record IsBound (symprec b : Float) : Type 0 where
@@ -64,7 +67,7 @@ pub record IsBound (symprec b : Float) : Type 0 where
 unfoldable pub squares_real : RealMatrix → RealSpace → Position → List Float
 squares_real basis s p = map (λ o. square_real basis s p (point_of o)) offsets
 
-unfoldable pub match_real : RealMatrix → Float → RealSpace → Position → Match
+unfoldable pub match_real : RealMatrix → Float → RealSpace → Position → Option Fit
 match_real basis symprec s p = first_near symprec 0 (squares_real basis s p)
 
 -- ---- offsets in columns
@@ -93,7 +96,7 @@ pub record Columns (n : ℕ) (f : ℕ → Position) (xs ys zs : List Float) : Ty
   pub z : Column n (λ i. (f i).z) zs
 
 -- the match by squares, one for each of n places, counted from k
-pub record NearColumn (symprec : Float) (k n : ℕ) (f : ℕ → Float) (r : Match) : Type 0 where
+pub record NearColumn (symprec : Float) (k n : ℕ) (f : ℕ → Float) (r : Option Fit) : Type 0 where
   pub squares : List Float
   pub column : Column n f squares
   pub near : r ≡ first_near symprec k squares
@@ -142,7 +145,7 @@ quotient_is (pos zero) b h = rw zero_whole (ap (λ t. cond t zero_f (div binary6
 quotient_is (pos (suc n)) b h = ap (λ t. cond t zero_f (div binary64 b (real_of (pos (suc n))))) (not_zero false n h)
 quotient_is (negsuc n) b h = ap (λ t. cond t zero_f (div binary64 b (real_of (negsuc n)))) (not_zero true n h)
 
-by_cases : (b : Bool) (m n : Match) → cond b m n ≡ elim b [ true ↦ m | false ↦ n ]
+by_cases : (b : Bool) (m n : Option Fit) → cond b m n ≡ elim b [ true ↦ m | false ↦ n ]
 by_cases true m n = refl
 by_cases false m n = refl
 
@@ -174,9 +177,9 @@ module _ (s : Space) (counted : CountedDiagonal s.snf.d) where
     unfolding first_near match_from fits_at
     from_is k [] = refl
     from_is k (o ∷ os) =
-        ap (λ a. cond (lt a symprec) (Fits k a) (first_near symprec (suc k) (map (λ o. square_real basis (real_space s) p (point_of o)) os))) (distance_is o)
-        ∙ ap (cond (lt (distance basis s p o) symprec) (Fits k (distance basis s p o))) (from_is (suc k) os)
-        ∙ by_cases (lt (distance basis s p o) symprec) (Fits k (distance basis s p o)) (match_from basis symprec s p (suc k) os)
+        ap (λ a. cond (lt a symprec) (Some (fit k a)) (first_near symprec (suc k) (map (λ o. square_real basis (real_space s) p (point_of o)) os))) (distance_is o)
+        ∙ ap (cond (lt (distance basis s p o) symprec) (Some (fit k (distance basis s p o)))) (from_is (suc k) os)
+        ∙ by_cases (lt (distance basis s p o) symprec) (Some (fit k (distance basis s p o))) (match_from basis symprec s p (suc k) os)
 
     pub match_is : match_real basis symprec (real_space s) p ≡ match_of basis symprec s p
     unfolding match_real squares_real match_of

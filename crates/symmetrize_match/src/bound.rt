@@ -2,7 +2,7 @@
 ghost use Rattle.std.specs.Prelude.{◌≡◌, ◌+◌, ◌<◌, [], ◌∷◌, length};
 ghost use Rattle.symmetrize_match.specs.Match.{IsBound, first_near};
 
-use definitions::Match;
+use definitions::Fit;
 use math_sqrt::sqrt;
 
 // symprec with a bound for its squares, which serves every position and candidate.
@@ -36,30 +36,29 @@ impl Tolerance {
     }
 
     // The offset at a place, by its square: a root only below the bound.
-    pub(crate) fn near(self, square: f64, place: usize) -> Match
+    pub(crate) fn near(self, square: f64, place: usize) -> Option<Fit>
         ensures { result ≡ first_near self.symprec place (square ∷ []) }
     {
         if self.bound <= square {
-            return Match::Misses;
+            return None;
         }
         let distance = sqrt(square);
         if distance < self.symprec {
-            return Match::Fits(place, distance);
+            return Some(Fit { place, distance });
         }
-        Match::Misses
+        None
     }
 
     // The first of the squares that is near, their places counted from `from`.
-    pub(crate) fn first_near(self, squares: &[f64], from: usize) -> Match
+    pub(crate) fn first_near(self, squares: &[f64], from: usize) -> Option<Fit>
         requires { from + length squares.now < 1000 }
         ensures { result ≡ first_near self.symprec from squares.now }
     {
         for (i, square) in squares.iter().enumerate() {
-            let tried = self.near(*square, from + i);
-            if let Match::Fits(_, _) = tried {
-                return tried;
+            if let Some(fit) = self.near(*square, from + i) {
+                return Some(fit);
             }
         }
-        Match::Misses
+        None
     }
 }

@@ -15,11 +15,8 @@ ghost use Rattle.symmetrize_match.specs.Match.{match_real, real_space, CountedDi
 
 use bound::Tolerance;
 use checks::{good_symprec, lattice_within, position_within};
-use data_wyckoff::space::prepare;
-use definitions::{
-    Basis, Cells, Match, Matching, Position, Rotation, SnfMatrix, Text, Verdict, refusal,
-};
-use math_real::position::position_of;
+use data_wyckoff::space::{Space, prepare};
+use definitions::{Basis, Cells, Fit, Position, Refusal, Rotation, SnfMatrix, Text};
 use math_real::whole;
 use trial::Trial;
 
@@ -35,7 +32,12 @@ pub struct RealSpace {
 }
 
 // moyo's `match_wyckoff_coordinates` of a candidate whose space is worked out already.
-pub fn match_prepared(basis: Basis, symprec: f64, space: &RealSpace, position: Position) -> Match
+pub fn match_prepared(
+    basis: Basis,
+    symprec: f64,
+    space: &RealSpace,
+    position: Position,
+) -> Option<Fit>
     ensures { result ≡ match_real basis symprec space.now position }
 {
     let trial = Trial {
@@ -79,7 +81,7 @@ pub fn real_space(
 {
     RealSpace {
         matrix: whole::real(matrix),
-        shift: position_of(shift),
+        shift: Position::from(shift),
         diagonal: diagonal_of(d),
         left: whole::real(l),
         right: whole::real(r),
@@ -87,23 +89,25 @@ pub fn real_space(
 }
 
 // moyo's `match_wyckoff_coordinates`: 4, 6, 8, or the match.
-pub fn match_coordinates(basis: Basis, position: Position, text: &Text, symprec: f64) -> Matching
+pub fn match_coordinates(
+    basis: Basis,
+    position: Position,
+    text: &Text,
+    symprec: f64,
+) -> Result<Option<Fit>, Refusal>
     ensures { MatchPromise basis position text.now symprec result }
 {
     if bad_floats(basis, position, symprec) {
-        return Matching::Refused(refusal::FLOAT_RANGE);
+        return Err(Refusal::FloatRange);
     }
-    let mut m = [[0; 3]; 3];
-    let mut q = [0.0; 3];
-    let mut d = [[0; 3]; 3];
-    let mut l = [[0; 3]; 3];
-    let mut r = [[0; 3]; 3];
-    let v = prepare(text, &mut m, &mut q, &mut d, &mut l, &mut r);
-    match v {
-        Verdict::Accepted => {
-            let space = real_space(m, q, d, l, r);
-            Matching::Answered(match_prepared(basis, symprec, &space, position))
-        }
-        Verdict::Refused(k) => Matching::Refused(k),
-    }
+    let mut given = Space {
+        matrix: [[0; 3]; 3],
+        shift: [0.0; 3],
+        d: [[0; 3]; 3],
+        l: [[0; 3]; 3],
+        r: [[0; 3]; 3],
+    };
+    prepare(text, &mut given)?;
+    let space = real_space(given.matrix, given.shift, given.d, given.l, given.r);
+    Ok(match_prepared(basis, symprec, &space, position))
 }

@@ -4,6 +4,7 @@ ghost use Rattle.definitions.specs.Real.{origin, apply_f};
 ghost use Rattle.symmetrize_match.specs.Match.{zero_diagonal, moved_real, cell, Columns};
 
 use crate::offsets::Axes;
+use crate::passes::Row;
 use crate::{RealSpace, passes};
 use definitions::Position;
 use math_real::position;
@@ -49,9 +50,21 @@ pub(crate) fn put_moved<const N: usize>(
     }
     let d = space.diagonal;
     let shift = space.shift;
-    passes::divide_row(d.x, space.left[0], shift, p, offsets, &mut out.x);
-    passes::divide_row(d.y, space.left[1], shift, p, offsets, &mut out.y);
-    passes::divide_row(d.z, space.left[2], shift, p, offsets, &mut out.z);
+    let row = Row {
+        d: d.x,
+        left: space.left[0],
+    };
+    passes::divide_row(row, shift, p, offsets, &mut out.x);
+    let row = Row {
+        d: d.y,
+        left: space.left[1],
+    };
+    passes::divide_row(row, shift, p, offsets, &mut out.y);
+    let row = Row {
+        d: d.z,
+        left: space.left[2],
+    };
+    passes::divide_row(row, shift, p, offsets, &mut out.z);
     passes::apply_all(space.right, out);
     passes::apply_all(space.matrix, out);
 }

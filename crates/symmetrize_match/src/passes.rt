@@ -14,10 +14,16 @@ fn row_times(row: [f64; 3], p: Position) -> f64
     row[0] * p.x + row[1] * p.y + row[2] * p.z
 }
 
+// A row of L with the entry of D that divides it.
+#[derive(Clone, Copy)]
+pub(crate) struct Row {
+    pub(crate) d: f64,
+    pub(crate) left: [f64; 3],
+}
+
 // A row of D⁻¹ L ((o + p) - q). Where d is 0 the row is, and was.
 pub(crate) fn divide_row<const N: usize>(
-    d: f64,
-    row: [f64; 3],
+    row: Row,
     shift: Position,
     p: Position,
     offsets: &Axes<N>,
@@ -25,16 +31,16 @@ pub(crate) fn divide_row<const N: usize>(
 )
     requires { Column N (λ i. zero_f) out.old }
     ensures { Column N
-        (λ i. quotient_real d
-        (row_times row (sub_p (add_p (cell offsets.now.x offsets.now.y offsets.now.z i) p) shift)))
+        (λ i. quotient_real row.d
+        (row_times row.left (sub_p (add_p (cell offsets.now.x offsets.now.y offsets.now.z i) p) shift)))
         out.new }
 {
-    if d == 0.0f64 {
+    if row.d == 0.0f64 {
         return;
     }
     for i in 0..N {
         let t = position::sub(position::add(offsets.at(i), p), shift);
-        out[i] = row_times(row, t) / d;
+        out[i] = row_times(row.left, t) / row.d;
     }
 }
 

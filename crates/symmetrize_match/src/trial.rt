@@ -9,7 +9,7 @@ use crate::bound::Tolerance;
 use crate::moved::put_moved;
 use crate::offsets::{Axes, INNER, OUTER};
 use crate::{RealSpace, fit, passes};
-use definitions::{Basis, Match, Position};
+use definitions::{Basis, Fit, Position};
 use math_real::position;
 
 // What one match asks of.
@@ -23,7 +23,7 @@ pub(crate) struct Trial<'a> {
 
 impl<'a> Trial<'a> {
     // The first offset, by itself.
-    fn match_first(&self) -> Match
+    fn match_first(&self) -> Option<Fit>
         ensures { result
             ≡ first_near self.now.tolerance.symprec 0
             (map (λ o. square_real self.now.basis self.now.space.now self.now.position (point_of o)) (take 1 offsets)) }
@@ -41,7 +41,7 @@ impl<'a> Trial<'a> {
     }
 
     // The first of the offsets that is near, their places counted from `from`.
-    fn match_run<const N: usize>(&self, offsets: &Axes<N>, from: usize) -> Match
+    fn match_run<const N: usize>(&self, offsets: &Axes<N>, from: usize) -> Option<Fit>
         requires { from + N < 1000 }
         ensures { NearColumn self.now.tolerance.symprec from N
             (λ i. square_real self.now.basis self.now.space.now self.now.position
@@ -64,25 +64,15 @@ impl<'a> Trial<'a> {
         self.tolerance.first_near(&moved.x, from)
     }
 
-    fn match_inner(&self) -> Match
-        ensures { result
-            ≡ first_near self.now.tolerance.symprec 0
-            (map (λ o. square_real self.now.basis self.now.space.now self.now.position (point_of o)) (take 27 offsets)) }
-    {
-        let tried = self.match_first();
-        match tried {
-            Match::Fits(_, _) => tried,
-            Match::Misses => self.match_run(&INNER, 1),
-        }
-    }
-
-    pub(crate) fn matched(&self) -> Match
+    pub(crate) fn matched(&self) -> Option<Fit>
         ensures { result ≡ match_real self.now.basis self.now.tolerance.symprec self.now.space.now self.now.position }
     {
-        let tried = self.match_inner();
-        match tried {
-            Match::Fits(_, _) => tried,
-            Match::Misses => self.match_run(&OUTER, 27),
+        if let Some(fit) = self.match_first() {
+            return Some(fit);
         }
+        if let Some(fit) = self.match_run(&INNER, 1) {
+            return Some(fit);
+        }
+        self.match_run(&OUTER, 27)
     }
 }

@@ -1,16 +1,14 @@
 -- How the step keeps its promise: by the guard, by a table of the letters and by what was written from it.
 use Prim.Native.Nat.{ℕ, suc, ◌≤◌, ◌<◌}
-use mathlib.Core.Path.{◌≡◌, refl, sym, ap, ap₂, ◌∙◌}
-use mathlib.Core.Bool.{Bool, true, false, not, ◌&&◌, ◌||◌}
+use mathlib.Core.Path.{◌≡◌, refl, sym, ap, ap₂, ◌∙◌, subst}
+use mathlib.Core.Bool.{Bool, true, false, not, ◌&&◌}
 use mathlib.Core.List.{List, [], ◌∷◌, ◌++◌, map}
 use mathlib.Core.Option.{Option, none, some}
 use native.Mathlib.Omega.{arith}
-use borrow.Author.Tests.{eqb-true}
-use lib.Dec.{eqb}
 use lib.ListN.{length, get_or, drop, length-map}
 use Rattle.definitions.specs.Limits.{most_candidates, most_listed}
 use Rattle.definitions.specs.Lists.{all}
-use Rattle.definitions.specs.Refusal.{padded}
+use Rattle.definitions.specs.Refusal.{Holds, Verdict, padded}
 use Rattle.definitions.specs.Transformation.{is_none}
 use Rattle.definitions.specs.Wyckoff.{letter_of, letter_or, letters}
 use Rattle.definitions.specs.SiteCalls.{AssignArguments, sites_in, assignable, all_lettered, Assigned}
@@ -21,7 +19,7 @@ use Rattle.symmetrize_wyckoff.specs.Walk.{walked}
 use Rattle.symmetrize_wyckoff.specs.Prepared.{RealCandidates, found_by, IsPrepared, PutSpaces, Assignable}
 use Rattle.symmetrize_wyckoff.specs.Prepared.{walked-prepared}
 use Rattle.symmetrize_wyckoff.specs.Prepared.{found, NotesAll, is_noted, noted_letter, Written, Walkable, Together}
-use Rattle.std.specs.Prelude.{is_some, Option as Found, None}
+use Rattle.std.specs.Prelude.{cond, is_ok, is_some, Option as Found, None}
 use Rattle.std.specs.Option.{unwrap_or}
 
 -- ---- lists by their places
@@ -64,17 +62,13 @@ module _ (x : AssignArguments) (entry exit : List ℕ) where
     unfolding letters
     no_letters = ap (map (λ l. letter_or (letter_of (sites_in x) l))) (nothing_in x.labels empty)
 
-  -- no lists to letter, or no sites
-  pub none_given :
-      (w : Bool) → w ≡ assignable x (length entry) → (not w || eqb (length x.labels) 0) ≡ true →
-      exit ≡ cut 0 0 entry → Assigned x entry exit w
-  none_given false e t h = record { judged = ap (λ b. b && all_lettered (sites_in x)) e; letters = h }
-  none_given true e t h =
-      let empty = eqb-true (length x.labels) 0 t in
-      record {
-        judged = sym (none_lettered empty) ∙ ap (λ b. b && all_lettered (sites_in x)) e;
-        letters = h ∙ ap (λ l. padded 0 l (length entry)) (sym (no_letters empty));
-      }
+    -- no sites
+    pub none_given : assignable x (length entry) ≡ true → exit ≡ cut 0 0 entry → Assigned x entry exit true
+    none_given e h =
+        record {
+          judged = sym (none_lettered) ∙ ap (λ b. b && all_lettered (sites_in x)) (sym e);
+          letters = h ∙ ap (λ l. padded 0 l (length entry)) (sym no_letters);
+        }
 
   module _ (ready : Assignable x) (given : assignable x (length entry) ≡ true) (table : List (Found ℕ))
       (noted : NotesAll (letter_of (sites_in x)) table) where
@@ -102,26 +96,25 @@ module _ (x : AssignArguments) (entry exit : List ℕ) where
         (w : Bool) → w ≡ all (is_noted table) x.labels → w ≡ (assignable x (length entry) && all_lettered (sites_in x))
     judge w e = e ∙ all_noted ∙ sym (ap (λ b. b && all_lettered (sites_in x)) given)
 
-    -- an orbit has none
-    pub one_without :
-        (mid : List ℕ) (w : Bool) → w ≡ false → Written x.labels table entry mid w → length mid ≡ length entry → exit
-        ≡ cut 0 0 mid →
-        Assigned x entry exit false
-    one_without mid w f wr len h =
-        record { judged = judge false (sym f ∙ wr.judged); letters = h ∙ ap (λ n. padded 0 [] n) len }
+    module _ (mid : List ℕ) (v : Verdict) (wr : Written x.labels table entry mid (is_ok v)) where
+      judged_so : (w : Bool) → is_ok v ≡ w → Holds 0 entry exit (cond w (letters (sites_in x)) []) → Assigned x entry exit (is_ok v)
+      judged_so w e h =
+          record {
+            judged = judge (is_ok v) wr.judged;
+            letters = subst (λ b. Holds 0 entry exit (cond b (letters (sites_in x)) [])) (sym e) h;
+          }
 
-    -- all have one
-    pub all_with :
-        (mid : List ℕ) (w : Bool) → w ≡ true → Written x.labels table entry mid w →
-        length x.labels ≤ length entry →
-        exit ≡ cut 0 (length x.labels) mid → Assigned x entry exit true
-    all_with mid w t wr room h =
-        record {
-          judged = judge true (sym t ∙ wr.judged);
-          letters =
-              padded_by 0 (letters (sites_in x)) entry exit mid (length x.labels) length-letters room
-              (wr.written t ∙ ap (λ l. l ++ drop (length x.labels) entry) letters_are) h;
-        }
+      -- an orbit has none
+      pub one_without : is_ok v ≡ false → length mid ≡ length entry → exit ≡ cut 0 0 mid → Assigned x entry exit (is_ok v)
+      one_without f len h = judged_so false f (h ∙ ap (λ n. padded 0 [] n) len)
+
+      -- all have one
+      pub all_with :
+          is_ok v ≡ true → length x.labels ≤ length entry → exit ≡ cut 0 (length x.labels) mid → Assigned x entry exit (is_ok v)
+      all_with t room h =
+          judged_so true t
+          (padded_by 0 (letters (sites_in x)) entry exit mid (length x.labels) length-letters room
+          (wr.written t ∙ ap (λ l. l ++ drop (length x.labels) entry) letters_are) h)
 
 -- ---- the table
 

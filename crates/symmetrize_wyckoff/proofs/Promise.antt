@@ -8,16 +8,17 @@ use native.Mathlib.Nat.{not-suc-le-zero, le_of_suc-le-suc}
 use native.Mathlib.Omega.{arith}
 use borrow.Author.Tests.{ltb-false, le-ltb, lt-ltb, eq-eqb, eqb-true, not-true, not-false}
 use lib.Dec.{T, ltb}
-use lib.ListN.{length, get_or, take, replicate, length-map}
+use lib.ListN.{length, get_or, take, replicate, length-append, length-map, length-replicate}
 use lib.Seq.{take_at}
-use Rattle.definitions.specs.declared.Verdict.{Verdict}
-use Rattle.definitions.specs.declared.Verdict.TheVariants.{Accepted, Refused}
+use Rattle.std.specs.Prelude.{Err, Ok, is_ok, is_err, IfErr}
+use Rattle.definitions.specs.declared.Refusal.{Refusal}
+use Rattle.definitions.specs.declared.Refusal.TheVariants.{Coordinates, Diagonalisation, ListedSites, Buffer, OrbitFit}
 use Rattle.definitions.specs.Lent.{cells_of, zero_cells, zero_matrix, unlike, bad_images, bad_permutation_counts}
 use Rattle.definitions.specs.Limits.{too_many_listed, too_many_candidates, shorter_than}
 use Rattle.definitions.specs.Lists.{any, Some}
 use Rattle.definitions.specs.Orbit.{Labels, multiplicities}
-use Rattle.definitions.specs.Refusal.{Checked, Returns, Applies, upto, precedence, padded, accepted, refused}
-use Rattle.definitions.specs.Refusal.{told, ◌when◌}
+use Rattle.definitions.specs.Refusal.{Checked, Returns, Applies, upto, precedence, padded, Outcome, accepted}
+use Rattle.definitions.specs.Refusal.{refused, number, Verdict, ◌when◌}
 use Rattle.definitions.specs.Refusal.{counts, site_image, listed_sites, buffer, coordinates, diagonalisation, Condition}
 use Rattle.definitions.specs.Standardize.{BadCoordinates, TextLeaves}
 use Rattle.definitions.specs.Wyckoff.{Space, AreSpaces, Found, sites_of, letters, orbit_without_fit}
@@ -33,7 +34,7 @@ use Rattle.laws.specs.Counting.{all_of}
 use Rattle.laws.specs.Order.{applies_later, applies_last, FailBefore, past_before, numbered, FailAll, past}
 use Rattle.laws.specs.Tests.{so, not_so, off, true_of, neither_left, neither_right}
 use Rattle.laws.specs.Verdicts.{HoldsAt, Passed, pass, found_at_lem, found_none, refuse, accept, verdict_of}
-use Rattle.laws.specs.Verdicts.{promise_accepted, promise_refused}
+use Rattle.laws.specs.Verdicts.{number_one, promise_accepted, promise_refused}
 use Rattle.base_cell.specs.Labels.{labels_listed}
 use Rattle.base_cell.proofs.Tables.{length-multiplicities}
 use Rattle.symmetrize_wyckoff.specs.Lettered.{unfit_by}
@@ -42,13 +43,22 @@ use Rattle.symmetrize_wyckoff.specs.Prepared.{Assignable}
 use Rattle.symmetrize_wyckoff.specs.Lettering.{AssignJudged, lacks_room, lacks_letter, has_all, Placed}
 use Rattle.symmetrize_wyckoff.specs.Lettering.{assign_with, assign_by, Labellable, LabelledJudged}
 use Rattle.symmetrize_wyckoff.specs.Lettering.{over, short, without, with_all}
-use Rattle.symmetrize_wyckoff.specs.Lettering.{LetterJudged, first_spaces, cells_of_spaces, placed_by}
+use Rattle.symmetrize_wyckoff.specs.Lettering.{LetterJudged, first_spaces, cells_of_spaces, placed_by, SpacesListed}
 use Rattle.symmetrize_wyckoff.proofs.Given.{six-same}
 use Rattle.symmetrize_wyckoff.proofs.Designs.{length-spaces, found_design, sites_are}
 
-abbrev is_accepted : Verdict → Bool
-is_accepted Accepted = true
-is_accepted (Refused k) = false
+abbrev is_accepted : {A : Type 0} → Outcome A → Bool
+is_accepted (accepted a) = true
+is_accepted (refused k) = false
+
+-- ---- the step, where there is room
+
+pub step_judged :
+    (x : AssignArguments) (entry exit : List ℕ) (v : Verdict) → shorter_than (length x.labels) (length entry) ≡ false →
+    Assigned x entry exit (is_ok v) → IfErr v (λ r. r ≡ OrbitFit) → AssignJudged x entry exit v
+step_judged x entry exit (Ok u) r a e = has_all r a
+step_judged x entry exit (Err k) r a e =
+    subst (λ j. AssignJudged x entry exit (Err j)) (sym e) (lacks_letter r a)
 
 -- ---- the lists that were labelled can be lettered
 
@@ -84,25 +94,47 @@ assignable_is x room h r =
     (ap not (le-ltb room n r))
     (all_of (λ l. ltb l n) 0 x.labels (λ i k. lt-ltb (get_or x.labels i 0) n (h.below i k)))
 
+-- ---- an answer in a lent list
+
+-- an answer at the front of a list
+front : {A : Type 0} (z : A) (a l : List A) (room n : ℕ) → l ≡ padded z a room → length a ≡ n → take n l ≡ a
+front z a l room n e h = ap (take n) e ∙ take_at a (replicate (room - length a) z) n h
+
+-- .. it is there
+behind : {A : Type 0} (z : A) (a l : List A) (room n : ℕ) → l ≡ padded z a room → length a ≡ n → n ≤ length l
+behind z a l room n e h =
+    omega (arith, h, ap length e ∙ length-append a (replicate (room - length a) z))
+
+-- .. and the list is as long as it was
+as_long : {A : Type 0} (z : A) (a l : List A) (room : ℕ) → l ≡ padded z a room → length a ≤ room → length l ≡ room
+as_long z a l room e h =
+    omega (arith, h, ap length e ∙ length-append a (replicate (room - length a) z), length-replicate (room - length a) z)
+
+-- a part of a list that is so long
+pub take_count : {A : Type 0} (n : ℕ) (l : List A) → n ≤ length l → n ≡ length (take n l)
+take_count zero l h = refl
+take_count (suc n) [] h = absurd (not-suc-le-zero h)
+take_count (suc n) (x ∷ l) h = ap suc (take_count n l (le_of_suc-le-suc h))
+
 -- ---- the label call
 
 module _ (x : LabelArguments) (e z : LabelCells) where
   abbrev conditions₁ : List Condition
   conditions₁ = label_conditions x (label_rooms e)
 
-  pub labelled_refused : (k : ℕ) → LabelPromise x e z (Refused k) → Checked conditions₁ (Refused k)
-  unfolding Checked
-  labelled_refused k (accepted a, h, t) = absurd (subst (λ v. T (is_accepted v)) t tt)
-  labelled_refused k (refused j, h, t) = subst (λ v. Checked conditions₁ v) t h.0
+  pub labelled_refused : (k : Refusal) → LabelPromise x e z (Err k) → Checked conditions₁ (Err k)
+  unfolding Checked Returns
+  labelled_refused k (accepted a, h, t) = absurd (subst (λ o. T (is_accepted o)) t tt)
+  labelled_refused k (refused j, h, t) = subst (Returns conditions₁ (λ (u : Unit {0}). Unit {0})) t h.0
 
   pub labelled-accepted :
-      LabelPromise x e z Accepted → Checked conditions₁ Accepted
+      LabelPromise x e z (Ok tt) → Checked conditions₁ (Ok tt)
       × ((a : LabelCells) × IsLabelled x a × HoldsLabels e z a)
   unfolding Checked Returns
   labelled-accepted (accepted a, h, t) = ((h.0.0, tt), (a, h.0.1, h.1))
-  labelled-accepted (refused j, h, t) = absurd (subst (λ v. T (is_accepted v)) (sym t) tt)
+  labelled-accepted (refused j, h, t) = absurd (subst (λ o. T (is_accepted o)) (sym t) tt)
 
-  module _ (k : ℕ) (n2 : T (bad_permutation_counts x.sites x.count x.images) → ⊥)
+  module _ (k : Refusal) (n2 : T (bad_permutation_counts x.sites x.count x.images) → ⊥)
       (n5 : T (bad_images x.sites x.count x.images || bad_mapping x.sites x.mapping) → ⊥) where
     abbrev nine : Condition
     nine = listed_sites when T (too_many_listed (length x.mapping))
@@ -118,23 +150,28 @@ module _ (x : LabelArguments) (e z : LabelCells) where
 
     -- past 2 and 5 it refuses with 9 or with 10
     pub nine_or_ten :
-        Checked conditions₁ (Refused k) →
-        ((9 ≡ k) × T (too_many_listed (length x.mapping)))
-        ⊎ ((10 ≡ k) × (T (too_many_listed (length x.mapping)) → ⊥)
+        Checked conditions₁ (Err k) →
+        ((ListedSites ≡ k) × T (too_many_listed (length x.mapping)))
+        ⊎ ((Buffer ≡ k) × (T (too_many_listed (length x.mapping)) → ⊥)
         × T (any (shorter_than (length x.mapping)) (label_rooms e)))
     unfolding Checked Returns Applies FailBefore any upto precedence
-    nine_or_ten c = ⊎_elim (λ a. inl (alone a)) (λ h. inr (h.0, few h, h.1)) (applies_last (nine ∷ []) ten k left)
+    nine_or_ten c =
+        ⊎_elim (λ a. inl (alone a)) (λ h. inr (number_one Buffer k h.0, few h, h.1))
+        (applies_last (nine ∷ []) ten (number k) left)
       where
-        left : Applies (nine ∷ ten ∷ []) k
-        left = applies_later five (nine ∷ ten ∷ []) k n5 (applies_later two (five ∷ nine ∷ ten ∷ []) k n2 c.0)
+        left : Applies (nine ∷ ten ∷ []) (number k)
+        left =
+            applies_later five (nine ∷ ten ∷ []) (number k) n5
+            (applies_later two (five ∷ nine ∷ ten ∷ []) (number k) n2 c.0)
 
-        alone : Applies (nine ∷ []) k → (9 ≡ k) × T (too_many_listed (length x.mapping))
-        alone a = ⊎_elim (λ n. absurd n) (λ h. h) (applies_last [] nine k a)
+        alone : Applies (nine ∷ []) (number k) → (ListedSites ≡ k) × T (too_many_listed (length x.mapping))
+        alone a =
+            ⊎_elim (λ n. absurd n) (λ h. (number_one ListedSites k h.0, h.1)) (applies_last [] nine (number k) a)
 
         few :
-            (10 ≡ k) × T (any (shorter_than (length x.mapping)) (label_rooms e)) →
+            (10 ≡ number k) × T (any (shorter_than (length x.mapping)) (label_rooms e)) →
             T (too_many_listed (length x.mapping)) → ⊥
-        few h = (subst (λ n. FailBefore n conditions₁) (sym h.0) (past_before k conditions₁ c.1)).1.1.0 tt
+        few h = (subst (λ n. FailBefore n conditions₁) (sym h.0) (past_before (number k) conditions₁ c.1)).1.1.0 tt
 
 -- ---- the candidates
 
@@ -142,19 +179,19 @@ module _ (texts : List (List ℕ)) (e z : SpaceCells) where
   abbrev conditions₂ : List Condition
   conditions₂ = prepare_all_conditions texts (space_rooms e)
 
-  pub prepared_refused : (k : ℕ) → PrepareAllPromise texts e z (Refused k) → Checked conditions₂ (Refused k)
-  unfolding Checked
-  prepared_refused k (accepted a, h, t) = absurd (subst (λ v. T (is_accepted v)) t tt)
-  prepared_refused k (refused j, h, t) = subst (λ v. Checked conditions₂ v) t h.0
+  pub prepared_refused : (k : Refusal) → PrepareAllPromise texts e z (Err k) → Checked conditions₂ (Err k)
+  unfolding Checked Returns
+  prepared_refused k (accepted a, h, t) = absurd (subst (λ o. T (is_accepted o)) t tt)
+  prepared_refused k (refused j, h, t) = subst (Returns conditions₂ (λ (u : Unit {0}). Unit {0})) t h.0
 
   pub prepared-accepted :
-      PrepareAllPromise texts e z Accepted →
-      Checked conditions₂ Accepted × ((ss : List Space) × AreSpaces texts ss × HoldsSpaces e z ss)
+      PrepareAllPromise texts e z (Ok tt) →
+      Checked conditions₂ (Ok tt) × ((ss : List Space) × AreSpaces texts ss × HoldsSpaces e z ss)
   unfolding Checked Returns
   prepared-accepted (accepted ss, h, t) = ((h.0.0, tt), (ss, h.0.1, h.1))
-  prepared-accepted (refused j, h, t) = absurd (subst (λ v. T (is_accepted v)) (sym t) tt)
+  prepared-accepted (refused j, h, t) = absurd (subst (λ o. T (is_accepted o)) (sym t) tt)
 
-  module _ (k : ℕ) (n2 : T (too_many_candidates (length texts)) → ⊥)
+  module _ (k : Refusal) (n2 : T (too_many_candidates (length texts)) → ⊥)
       (n10 : T (any (shorter_than (length texts)) (space_rooms e)) → ⊥) where
     abbrev many : Condition
     many = counts when T (too_many_candidates (length texts))
@@ -170,33 +207,24 @@ module _ (texts : List (List ℕ)) (e z : SpaceCells) where
 
     -- past 2 and with room it refuses with 6 or with 8
     pub six_or_eight :
-        Checked conditions₂ (Refused k) → ((6 ≡ k) × BadCoordinates texts)
-        ⊎ ((8 ≡ k) × (BadCoordinates texts → ⊥) × Some TextLeaves texts)
+        Checked conditions₂ (Err k) → ((Coordinates ≡ k) × BadCoordinates texts)
+        ⊎ ((Diagonalisation ≡ k) × (BadCoordinates texts → ⊥) × Some TextLeaves texts)
     unfolding Checked Returns Applies FailBefore any upto precedence
     six_or_eight c =
-        ⊎_elim (λ a. inl (alone a)) (λ h. inr (h.0, good h, h.1)) (applies_last (six ∷ []) eight k two_left)
+        ⊎_elim (λ a. inl (alone a)) (λ h. inr (number_one Diagonalisation k h.0, good h, h.1))
+        (applies_last (six ∷ []) eight (number k) two_left)
       where
-        left : Applies (six ∷ eight ∷ room_ten ∷ []) k
-        left = applies_later many (six ∷ eight ∷ room_ten ∷ []) k n2 c.0
+        left : Applies (six ∷ eight ∷ room_ten ∷ []) (number k)
+        left = applies_later many (six ∷ eight ∷ room_ten ∷ []) (number k) n2 c.0
 
-        two_left : Applies (six ∷ eight ∷ []) k
-        two_left = ⊎_elim (λ a. a) (λ h. absurd (n10 h.1)) (applies_last (six ∷ eight ∷ []) room_ten k left)
+        two_left : Applies (six ∷ eight ∷ []) (number k)
+        two_left = ⊎_elim (λ a. a) (λ h. absurd (n10 h.1)) (applies_last (six ∷ eight ∷ []) room_ten (number k) left)
 
-        alone : Applies (six ∷ []) k → (6 ≡ k) × BadCoordinates texts
-        alone a = ⊎_elim (λ n. absurd n) (λ h. h) (applies_last [] six k a)
+        alone : Applies (six ∷ []) (number k) → (Coordinates ≡ k) × BadCoordinates texts
+        alone a = ⊎_elim (λ n. absurd n) (λ h. (number_one Coordinates k h.0, h.1)) (applies_last [] six (number k) a)
 
-        good : (8 ≡ k) × Some TextLeaves texts → BadCoordinates texts → ⊥
-        good h = (subst (λ n. FailBefore n conditions₂) (sym h.0) (past_before k conditions₂ c.1)).1.0 tt
-
--- an answer at the front of a list
-front : {A : Type 0} (z : A) (a l : List A) (room n : ℕ) → l ≡ padded z a room → length a ≡ n → take n l ≡ a
-front z a l room n e h = ap (take n) e ∙ take_at a (replicate (room - length a) z) n h
-
--- a part of a list that is so long
-pub take_count : {A : Type 0} (n : ℕ) (l : List A) → n ≤ length l → n ≡ length (take n l)
-take_count zero l h = refl
-take_count (suc n) [] h = absurd (not-suc-le-zero h)
-take_count (suc n) (x ∷ l) h = ap suc (take_count n l (le_of_suc-le-suc h))
+        good : (8 ≡ number k) × Some TextLeaves texts → BadCoordinates texts → ⊥
+        good h = (subst (λ n. FailBefore n conditions₂) (sym h.0) (past_before (number k) conditions₂ c.1)).1.0 tt
 
 -- ---- the labels and their letters
 
@@ -237,35 +265,32 @@ module _ (x : LabelArguments) (p : Placed) (h : Labellable x p) (entry exit : Le
 
   -- the label call refuses
   pub labelled_out :
-      (z : LabelCells) (v : Verdict) (k : ℕ) → LabelPromise x before z v → v ≡ Refused k →
-      LabelledJudged x p entry exit (Refused k)
-  labelled_out z v k promise told =
+      (z : LabelCells) (k : Refusal) → LabelPromise x before z (Err k) → LabelledJudged x p entry exit (Err k)
+  labelled_out z k promise =
       ⊎_elim
-      (λ a. subst (λ n. LabelledJudged x p entry exit (Refused n)) a.0
+      (λ a. subst (λ n. LabelledJudged x p entry exit (Err n)) a.0
       (over (true_of (too_many_listed (length x.mapping)) a.1)))
       (λ a.
-      subst (λ n. LabelledJudged x p entry exit (Refused n)) a.0
+      subst (λ n. LabelledJudged x p entry exit (Err n)) a.0
       (short (off (too_many_listed (length x.mapping)) a.1)
       (any_front (shorter_than (length x.mapping)) (length entry.labels) (length entry.multiplicities)
       (length entry.letters)
       (true_of (any (shorter_than (length x.mapping)) (label_rooms before)) a.2))))
       (nine_or_ten x before z k (not_so h.counts) (not_so h.images)
-      (labelled_refused x before z k (subst (LabelPromise x before z) told promise)))
+      (labelled_refused x before z k promise))
 
   -- it accepts, and its lists go on to the step
-  module _ (v : Verdict)
-      (promise : LabelPromise x before (record { labels = exit.labels; multiplicities = exit.multiplicities }) v)
-      (accepts : v ≡ Accepted) where
-    abbrev after : LabelCells
-    after = record { labels = exit.labels; multiplicities = exit.multiplicities }
+  abbrev after : LabelCells
+  after = record { labels = exit.labels; multiplicities = exit.multiplicities }
 
+  module _ (promise : LabelPromise x before after (Ok tt)) where
     abbrev n : ℕ
     n = length x.mapping
 
     known :
-        Checked (label_conditions x (label_rooms before)) Accepted
+        Checked (label_conditions x (label_rooms before)) (Ok tt)
         × ((a : LabelCells) × IsLabelled x a × HoldsLabels before after a)
-    known = labelled-accepted x before after (subst (LabelPromise x before after) accepts promise)
+    known = labelled-accepted x before after promise
 
     abbrev ls : List ℕ
     ls = known.1.0.labels
@@ -286,17 +311,17 @@ module _ (x : LabelArguments) (p : Placed) (h : Labellable x p) (entry exit : Le
         off (any (shorter_than n) (label_rooms before))
         (past (label_conditions x (label_rooms before)) tt known.0).1.1.1.0
 
-    -- room for the labels and the multiplicities
-    pub labels_room : n ≤ length entry.labels
-    labels_room =
-        ltb-false (length entry.labels) n
-        (none_head (shorter_than n) (length entry.labels) (length entry.multiplicities ∷ []) rooms)
+    -- the labels and the multiplicities are there
+    counted_multiplicities : length known.1.0.multiplicities ≡ n
+    counted_multiplicities = ap length counted ∙ length-multiplicities ls ∙ right.each
 
-    pub multiplicities_room : n ≤ length entry.multiplicities
-    multiplicities_room =
-        ltb-false (length entry.multiplicities) n
-        (none_head (shorter_than n) (length entry.multiplicities) []
-        (none_tail (shorter_than n) (length entry.labels) (length entry.multiplicities ∷ []) rooms))
+    pub labels_there : n ≤ length exit.labels
+    labels_there = behind 0 ls exit.labels (length entry.labels) n known.1.2.labels right.each
+
+    pub multiplicities_there : n ≤ length exit.multiplicities
+    multiplicities_there =
+        behind 0 known.1.0.multiplicities exit.multiplicities (length entry.multiplicities) n known.1.2.multiplicities
+        counted_multiplicities
 
     front_labels : take n exit.labels ≡ ls
     front_labels = front 0 ls exit.labels (length entry.labels) n known.1.2.labels right.each
@@ -304,8 +329,7 @@ module _ (x : LabelArguments) (p : Placed) (h : Labellable x p) (entry exit : Le
     front_multiplicities : take n exit.multiplicities ≡ multiplicities ls
     front_multiplicities =
         front 0 known.1.0.multiplicities exit.multiplicities (length entry.multiplicities) n
-        known.1.2.multiplicities
-        (ap length counted ∙ length-multiplicities ls ∙ right.each)
+        known.1.2.multiplicities counted_multiplicities
         ∙ counted
 
     ready : Assignable (assign_by p ls)
@@ -435,25 +459,26 @@ module _ (x : LetterArguments) (entry exit : LetterCells) where
         (alike (length x.labelling.mapping) (length x.positions)
         (neither_right bad₃ (unlike (length x.labelling.mapping) (length x.positions)) not_two))
 
-    module _ (e z : SpaceCells) (v : Verdict) (promise : PrepareAllPromise x.texts e z v)
-        (enough : any (shorter_than t) (space_rooms e) ≡ false) where
+    module _ (e z : SpaceCells) where
       -- a candidate is refused
-      pub prepared_out : (k : ℕ) → v ≡ Refused k → LetterJudged x entry exit (Refused k)
+      pub prepared_out :
+          any (shorter_than t) (space_rooms e) ≡ false → (k : Refusal) → PrepareAllPromise x.texts e z (Err k) →
+          LetterJudged x entry exit (Err k)
       unfolding verdict_of found_at_lem Passed HoldsAt
-      prepared_out k told =
+      prepared_out enough k promise =
           ⊎_elim
-          (λ a. subst (λ n. Checked conditions₃ (Refused n)) a.0
-          (refuse conditions₃ 3 given a.1 (Refused 6) refl))
-          (λ a. subst (λ n. Checked conditions₃ (Refused n)) a.0
-          (refuse conditions₃ 4 (pass conditions₃ 3 given a.1) a.2 (Refused 8) refl))
+          (λ a. subst (λ n. Checked conditions₃ (Err n)) a.0
+          (refuse conditions₃ 3 given a.1 (Err Coordinates) refl))
+          (λ a. subst (λ n. Checked conditions₃ (Err n)) a.0
+          (refuse conditions₃ 4 (pass conditions₃ 3 given a.1) a.2 (Err Diagonalisation) refl))
           (six_or_eight x.texts e z k (not_so few_texts) (not_so enough)
-          (prepared_refused x.texts e z k (subst (PrepareAllPromise x.texts e z) told promise)))
+          (prepared_refused x.texts e z k promise))
 
-      module _ (accepts : v ≡ Accepted) where
+      module _ (promise : PrepareAllPromise x.texts e z (Ok tt)) where
         prepared :
-            Checked (prepare_all_conditions x.texts (space_rooms e)) Accepted
+            Checked (prepare_all_conditions x.texts (space_rooms e)) (Ok tt)
             × ((ss : List Space) × AreSpaces x.texts ss × HoldsSpaces e z ss)
-        prepared = prepared-accepted x.texts e z (subst (PrepareAllPromise x.texts e z) accepts promise)
+        prepared = prepared-accepted x.texts e z promise
 
         abbrev ss : List Space
         ss = prepared.1.0
@@ -497,8 +522,30 @@ module _ (x : LetterArguments) (entry exit : LetterCells) where
               rs = length-map ss (λ s. s.snf.r) ∙ count ∙ sym same-multiplicities;
             }
 
-        pub labellable : Labellable x.labelling (placed_by x (first_spaces t z))
+        labellable : Labellable x.labelling (placed_by x (first_spaces t z))
         labellable = subst (λ s. Labellable x.labelling (placed_by x s)) (sym spaces_are) labellable_spaces
+
+        pub listed_spaces : SpacesListed x z
+        listed_spaces =
+            let h = prepared.1.2 in
+            record {
+              matrices =
+                  behind zero_matrix (map (λ (s : Space). s.matrix) ss) z.matrices (length e.matrices) t h.matrices
+                  (length-map ss (λ s. s.matrix) ∙ count);
+              shifts =
+                  behind zero_cells (map (λ (s : Space). cells_of s.shift) ss) z.shifts (length e.shifts) t h.shifts
+                  (length-map ss (λ s. cells_of s.shift) ∙ count);
+              ds =
+                  behind zero_matrix (map (λ (s : Space). s.snf.d) ss) z.ds (length e.ds) t h.ds
+                  (length-map ss (λ s. s.snf.d) ∙ count);
+              ls =
+                  behind zero_matrix (map (λ (s : Space). s.snf.l) ss) z.ls (length e.ls) t h.ls
+                  (length-map ss (λ s. s.snf.l) ∙ count);
+              rs =
+                  behind zero_matrix (map (λ (s : Space). s.snf.r) ss) z.rs (length e.rs) t h.rs
+                  (length-map ss (λ s. s.snf.r) ∙ count);
+              labellable = labellable;
+            }
 
         passed : Passed conditions₃ 5
         unfolding numbered FailAll HoldsAt
@@ -523,14 +570,14 @@ module _ (x : LetterArguments) (entry exit : LetterCells) where
             (w : Verdict) → LabelledJudged x.labelling (placed_by x (cells_of_spaces ss)) entry exit w →
             LetterJudged x entry exit w
         unfolding verdict_of found_at_lem found_none Passed HoldsAt
-        by_labels w (over m) = refuse conditions₃ 5 passed (so m) (Refused 9) refl
-        by_labels w (short m r) = refuse conditions₃ 6 (pass conditions₃ 5 passed (not_so m)) (so r) (Refused 10) refl
+        by_labels w (over m) = refuse conditions₃ 5 passed (so m) (Err ListedSites) refl
+        by_labels w (short m r) = refuse conditions₃ 6 (pass conditions₃ 5 passed (not_so m)) (so r) (Err Buffer) refl
         by_labels w (without m r ls right a) =
             refuse conditions₃ 7 (pass conditions₃ 6 (pass conditions₃ 5 passed (not_so m)) (not_so r)) (
               design ls right,
               so {b = orbit_without_fit (sites_of (design ls right))}
                   (not-false _ (fits_or_not ls right false a)),
-            ) (Refused 13) refl
+            ) (Err OrbitFit) refl
         by_labels w (with_all m r ls right a h) = (
           accept conditions₃
               (pass conditions₃ 7 (pass conditions₃ 6 (pass conditions₃ 5 passed (not_so m)) (not_so r))
@@ -553,23 +600,20 @@ module _ (x : LetterArguments) (entry exit : LetterCells) where
 
 -- ---- the promise
 
-module _ (x : LetterArguments) (entry : LetterCells) (v : Verdict) where
-  pub keep-accepted : (exit : LetterCells) → v ≡ Accepted → LetterJudged x entry exit v → LetterPromise x entry exit v
-  keep-accepted exit told j =
-      let a = subst (LetterJudged x entry exit) told j in
-      subst (LetterPromise x entry exit) (sym told)
-      (promise_accepted (letter_conditions x (letter_rooms entry)) (IsLettered x) (HoldsLetters entry exit)
+module _ (x : LetterArguments) (entry : LetterCells) where
+  pub keep-accepted :
+      (v : Verdict) (exit : LetterCells) → is_err v ≡ false → LetterJudged x entry exit v → LetterPromise x entry exit v
+  keep-accepted (Ok u) exit told j =
+      promise_accepted (letter_conditions x (letter_rooms entry)) (IsLettered x) (HoldsLetters entry exit)
       (HoldsLetters entry exit nothing_lettered)
-      a.1.0 a.0 a.1.1 a.1.2)
+      j.1.0 j.0 j.1.1 j.1.2
+  keep-accepted (Err k) exit told j = absurd (subst T told tt)
 
   -- the three lists zero
   pub keep_refused :
-      {k : ℕ} (mid exit : LetterCells) → v ≡ Refused k → LetterJudged x entry mid v →
-      exit.labels ≡ padded 0 [] (length entry.labels) → exit.multiplicities
-      ≡ padded 0 [] (length entry.multiplicities) →
-      exit.letters ≡ padded 0 [] (length entry.letters) → LetterPromise x entry exit v
-  keep_refused {k} mid exit told j l m n =
-      subst (LetterPromise x entry exit) (sym told)
-      (promise_refused (letter_conditions x (letter_rooms entry)) (IsLettered x) (HoldsLetters entry exit)
-      (HoldsLetters entry exit nothing_lettered) k
-      (subst (LetterJudged x entry mid) told j) (record { labels = l; multiplicities = m; letters = n }))
+      (v : Verdict) (mid exit : LetterCells) → is_err v ≡ true → LetterJudged x entry mid v →
+      HoldsLetters entry exit nothing_lettered → LetterPromise x entry exit v
+  keep_refused (Ok u) mid exit told j cleared = absurd (subst T (sym told) tt)
+  keep_refused (Err k) mid exit told j cleared =
+      promise_refused (letter_conditions x (letter_rooms entry)) (IsLettered x) (HoldsLetters entry exit)
+      (HoldsLetters entry exit nothing_lettered) k j cleared

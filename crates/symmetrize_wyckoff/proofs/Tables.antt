@@ -17,11 +17,14 @@ use Rattle.definitions.specs.Real.{RealMatrix}
 use Rattle.definitions.specs.Limits.{most_listed}
 use Rattle.laws.specs.Counting.{length-up_to, get_d_up_to}
 use Rattle.symmetrize_wyckoff.specs.Firsts.{or_else, first_miss, first_hit, first_end}
-use Rattle.symmetrize_wyckoff.specs.Walk.{is_fit, walked}
+use Rattle.symmetrize_wyckoff.specs.Walk.{walked}
 use Rattle.symmetrize_wyckoff.specs.Prepared.{RealCandidates, space_at, fits_real, found_real}
 use Rattle.laws.specs.Tests.{never}
 use Rattle.symmetrize_wyckoff.specs.Prepared.{found, NotesAll, is_noted}
-use Rattle.std.specs.Prelude.{is_some, Option as Found, Some, None}
+use Rattle.std.specs.Prelude.{is_some, Option as Found, Some, None, Result}
+use Rattle.std.specs.Option.{ok_or}
+use Rattle.std.specs.Result.{result_ok}
+use Rattle.definitions.specs.declared.Refusal.{Refusal}
 use Rattle.symmetrize_match.specs.Match.{match_real}
 
 -- ---- the search among n candidates, by places
@@ -44,7 +47,7 @@ module _ (basis : RealMatrix) (symprec : Float) (m : ℕ) (p : Position) (cs : R
   other_count k ne = rw (ne_eqb (get_or cs.multiplicities k 0) m ne)
 
   pub same_count :
-      (k : ℕ) (r : Bool) → get_or cs.multiplicities k 0 ≡ m → r ≡ is_fit (match_real basis symprec (space_at cs k) p) →
+      (k : ℕ) (r : Bool) → get_or cs.multiplicities k 0 ≡ m → r ≡ is_some (match_real basis symprec (space_at cs k) p) →
       r ≡ fits_real basis symprec m p cs k
   unfolding fits_real
   same_count k r e h = rw (eq-eqb (get_or cs.multiplicities k 0) m e) h
@@ -62,6 +65,10 @@ module _ (basis : RealMatrix) (symprec : Float) (m : ℕ) (p : Position) (cs : R
   found_none e = rw e refl
 
 -- ---- what a cell says
+
+pub cell_is : (o : Found ℕ) (k : Refusal) (r : Result ℕ Refusal) → r ≡ ok_or o k → o ≡ result_ok r
+cell_is None k r e = sym (ap result_ok e)
+cell_is (Some x) k r e = sym (ap result_ok e)
 
 keeps : (o y : Option ℕ) → is_some (found o) ≡ true → or_else o y ≡ o
 keeps none y e = absurd (never e)

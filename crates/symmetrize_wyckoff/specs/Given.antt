@@ -1,5 +1,6 @@
 -- What the letter call, its step and its walk are given, as the definitions speak of it.
-use Rattle.definitions.specs.SiteCalls.{LetterArguments, SpaceCells}
+use Rattle.std.specs.Prelude.{ℕ, List}
+use Rattle.definitions.specs.SiteCalls.{LabelCells, LetterArguments, LetterCells, SpaceCells}
 use Rattle.base_cell.specs.Given.{arguments_of}
 use Rattle.symmetrize_wyckoff.specs.declared.find.Candidates.{Candidates}
 use Rattle.symmetrize_wyckoff.specs.declared.arguments.Lettering.{Lettering}
@@ -35,3 +36,7 @@ letter_arguments_of x =
       texts = x.texts.now;
       symprec = x.symprec;
     }
+
+-- the three lists that are lent
+abbrev pub letter_cells : LabelCells → List ℕ → LetterCells
+letter_cells o letters = record { labels = o.labels; multiplicities = o.multiplicities; letters = letters }

@@ -1,14 +1,14 @@
 -- What the parts of the letter call promise: the tests of what is given, the walk over labelled sites, the labels with
 -- their letters, and the verdict of all.
 use Rattle.std.specs.Prelude.{ℕ, Bool, ◌≤◌, ◌≡◌, true, false, ◌||◌, List, map, Float, length, take}
-use Rattle.definitions.specs.declared.Verdict.{Verdict}
-use Rattle.definitions.specs.declared.Verdict.TheVariants.{Accepted, Refused}
+use Rattle.std.specs.Prelude.{Err, Ok}
+use Rattle.definitions.specs.declared.Refusal.TheVariants.{ListedSites, Buffer, OrbitFit}
 use Rattle.definitions.specs.Lent.{cells_of, unlike, bad_permutation_counts, bad_images}
 use Rattle.definitions.specs.Limits.{most_candidates, too_many_candidates, too_many_listed, shorter_than}
 use Rattle.definitions.specs.Lists.{any}
 use Rattle.definitions.specs.Orbit.{Labels, multiplicities}
 use Rattle.definitions.specs.Real.{RealMatrix}
-use Rattle.definitions.specs.Refusal.{Checked}
+use Rattle.definitions.specs.Refusal.{Verdict, Checked}
 use Rattle.definitions.specs.Wyckoff.{Space, letters}
 use Rattle.definitions.specs.SiteCalls.{LabelArguments, permutations_in, bad_mapping, LetterArguments, letter_conditions}
 use Rattle.definitions.specs.SiteCalls.{LetterCells, letter_rooms}
@@ -28,20 +28,20 @@ bad_lists x =
 
 -- past 2, 4 and 5, or refused with the first of them that applies, whatever room is lent
 abbrev pub GivenJudged : LetterArguments → Verdict → Type 0
-GivenJudged x Accepted = (rooms : List ℕ) → Passed (letter_conditions x rooms) 3
-GivenJudged x (Refused k) = (rooms : List ℕ) → Checked (letter_conditions x rooms) (Refused k)
+GivenJudged x (Ok u) = (rooms : List ℕ) → Passed (letter_conditions x rooms) 3
+GivenJudged x (Err k) = (rooms : List ℕ) → Checked (letter_conditions x rooms) (Err k)
 
 -- ---- labelled sites
 
 -- 10, or 13 where an orbit has no letter, or the step is whole
 pub data AssignJudged (x : AssignArguments) (entry exit : List ℕ) : Verdict → Type 0 where
-  lacks_room : shorter_than (length x.labels) (length entry) ≡ true → AssignJudged x entry exit (Refused 10)
+  lacks_room : shorter_than (length x.labels) (length entry) ≡ true → AssignJudged x entry exit (Err Buffer)
   lacks_letter :
       shorter_than (length x.labels) (length entry) ≡ false → Assigned x entry exit false →
-      AssignJudged x entry exit (Refused 13)
+      AssignJudged x entry exit (Err OrbitFit)
   has_all :
       shorter_than (length x.labels) (length entry) ≡ false → Assigned x entry exit true →
-      AssignJudged x entry exit Accepted
+      AssignJudged x entry exit (Ok tt)
 
 -- ---- sites with their labels
 
@@ -89,28 +89,28 @@ labelled_cells p ls =
 
 -- 9, 10, 13, or labels and letters in the lent lists
 pub data LabelledJudged (x : LabelArguments) (p : Placed) (entry exit : LetterCells) : Verdict → Type 0 where
-  over : too_many_listed (length x.mapping) ≡ true → LabelledJudged x p entry exit (Refused 9)
+  over : too_many_listed (length x.mapping) ≡ true → LabelledJudged x p entry exit (Err ListedSites)
   short :
       too_many_listed (length x.mapping) ≡ false → any (shorter_than (length x.mapping)) (letter_rooms entry) ≡ true →
-      LabelledJudged x p entry exit (Refused 10)
+      LabelledJudged x p entry exit (Err Buffer)
   without :
       too_many_listed (length x.mapping) ≡ false → any (shorter_than (length x.mapping)) (letter_rooms entry)
       ≡ false →
       (ls : List ℕ) → Labels (permutations_in x) x.mapping ls → all_lettered (sites_in (assign_by p ls)) ≡ false →
-      LabelledJudged x p entry exit (Refused 13)
+      LabelledJudged x p entry exit (Err OrbitFit)
   with_all :
       too_many_listed (length x.mapping) ≡ false → any (shorter_than (length x.mapping)) (letter_rooms entry)
       ≡ false →
       (ls : List ℕ) → Labels (permutations_in x) x.mapping ls → all_lettered (sites_in (assign_by p ls)) ≡ true →
-      HoldsLetters entry exit (labelled_cells p ls) → LabelledJudged x p entry exit Accepted
+      HoldsLetters entry exit (labelled_cells p ls) → LabelledJudged x p entry exit (Ok tt)
 
 -- ---- all
 
 abbrev pub LetterJudged : LetterArguments → LetterCells → LetterCells → Verdict → Type 0
-LetterJudged x entry exit Accepted =
-    Checked (letter_conditions x (letter_rooms entry)) Accepted
+LetterJudged x entry exit (Ok u) =
+    Checked (letter_conditions x (letter_rooms entry)) (Ok tt)
     × ((a : LetterCells) × IsLettered x a × HoldsLetters entry exit a)
-LetterJudged x entry exit (Refused k) = Checked (letter_conditions x (letter_rooms entry)) (Refused k)
+LetterJudged x entry exit (Err k) = Checked (letter_conditions x (letter_rooms entry)) (Err k)
 
 -- the first n entries of each list of spaces
 abbrev pub first_spaces : ℕ → SpaceCells → SpaceCells
@@ -144,3 +144,12 @@ placed_by x spaces =
       letters = x.letters;
       spaces = spaces;
     }
+
+-- past 2 and 5, with lists that belong together, and lists of spaces that are no shorter than those of candidates
+pub record SpacesListed (x : LetterArguments) (e : SpaceCells) : Type 0 where
+  pub matrices : length x.texts ≤ length e.matrices
+  pub shifts : length x.texts ≤ length e.shifts
+  pub ds : length x.texts ≤ length e.ds
+  pub ls : length x.texts ≤ length e.ls
+  pub rs : length x.texts ≤ length e.rs
+  pub labellable : Labellable x.labelling (placed_by x (first_spaces (length x.texts) e))

@@ -24,7 +24,7 @@ use Rattle.symmetrize_match.specs.declared.RealSpace.{RealSpace}
 use Rattle.symmetrize_match.specs.Match.{space_of, real_space, CountedDiagonal, match_real}
 use Rattle.symmetrize_match.specs.Match.{match_is}
 use Rattle.symmetrize_wyckoff.specs.Firsts.{mapped, first_map, first_same}
-use Rattle.symmetrize_wyckoff.specs.Walk.{is_fit, fits_is, walked, walked_same, found_at, letter_walked}
+use Rattle.symmetrize_wyckoff.specs.Walk.{fits_is, walked, walked_same, found_at, letter_walked}
 
 -- ---- what a site finds
 
@@ -47,7 +47,7 @@ space_at cs k = get_or cs.spaces k no_space
 -- "A candidate is tried only where its multiplicity equals the orbit's"
 unfoldable pub fits_real : RealMatrix → Float → ℕ → Position → RealCandidates → ℕ → Bool
 fits_real basis symprec m p cs k =
-    eqb (get_or cs.multiplicities k 0) m && is_fit (match_real basis symprec (space_at cs k) p)
+    eqb (get_or cs.multiplicities k 0) m && is_some (match_real basis symprec (space_at cs k) p)
 
 -- the letter of the first candidate, in list order, that a position fits
 unfoldable pub found_real : RealMatrix → Float → ℕ → Position → RealCandidates → Option ℕ
@@ -142,10 +142,10 @@ module _ (x : AssignArguments) (cs : RealCandidates) (h : IsPrepared x cs) where
       fits_real x.basis x.symprec m p cs k ≡ position_fits x.basis x.symprec m p (choice_at x k)
   unfolding fits_real position_fits
   fits_prepared m p k b =
-      ap (λ ms. eqb (get_or ms k 0) m && is_fit (match_real x.basis x.symprec (space_at cs k) p)) h.multiplicities
+      ap (λ ms. eqb (get_or ms k 0) m && is_some (match_real x.basis x.symprec (space_at cs k) p)) h.multiplicities
       ∙ ap (λ t. eqb (get_or x.candidates k 0) m && t)
-      (ap (λ s. is_fit (match_real x.basis x.symprec s p)) (h.space k b)
-      ∙ ap is_fit (match_is (choice_at x k).space (h.counted k b) x.basis x.symprec p)
+      (ap (λ s. is_some (match_real x.basis x.symprec s p)) (h.space k b)
+      ∙ ap is_some (match_is (choice_at x k).space (h.counted k b) x.basis x.symprec p)
       ∙ sym (fits_is x.basis x.symprec (choice_at x k).space p))
 
   mapped_twice :

@@ -7,8 +7,8 @@ use Rattle.std.proofs.Math.Bool.{true, false, not}
 use mathlib.Core.List.{List, [], ◌∷◌}
 use Rattle.std.proofs.Math.Option.{Option, none, some}
 use Rattle.definitions.specs.declared.Position.{Position}
-use Rattle.definitions.specs.declared.Match.{Match}
-use Rattle.definitions.specs.declared.Match.TheVariants.{Fits, Misses}
+use Rattle.std.specs.Prelude.{Option as Found, is_some as is_fit, Some}
+use Rattle.definitions.specs.declared.Fit.{Fit}
 use Rattle.definitions.specs.Lists.{any, first, those, up_from, up_to}
 use Rattle.definitions.specs.Real.{RealMatrix, origin}
 use Rattle.definitions.specs.Orbit.{orbit}
@@ -21,10 +21,6 @@ use Rattle.symmetrize_wyckoff.specs.Firsts.{those-append, up_to-more}
 
 -- ---- a fit is a match that fits
 
-abbrev pub is_fit : Match → Bool
-is_fit (Fits k d) = true
-is_fit Misses = false
-
 module _ (basis : RealMatrix) (symprec : Float) (s : Space) (p : Position) where
   fit_from : (k : ℕ) (os : List (List ℤ)) → any (fits_at basis symprec s p) os ≡ is_fit (match_from basis symprec s p k os)
   unfolding any match_from
@@ -34,10 +30,9 @@ module _ (basis : RealMatrix) (symprec : Float) (s : Space) (p : Position) where
       by :
           (b : Bool) → any (fits_at basis symprec s p) os ≡ is_fit (match_from basis symprec s p (suc k) os) →
           elim b as (λ (x : Bool). Bool) [ true ↦ true | false ↦ any (fits_at basis symprec s p) os ]
-          ≡ is_fit (elim b as (λ (x : Bool). Match) [
-            | true ↦ Fits k (distance basis s p o)
-            | false ↦ match_from basis
-                symprec s p (suc k) os
+          ≡ is_fit (elim b as (λ (x : Bool). Found Fit) [
+            | true ↦ Some (record { place = k; distance = distance basis s p o })
+            | false ↦ match_from basis symprec s p (suc k) os
           ])
       by true e = refl
       by false e = e

@@ -1,139 +1,112 @@
 // The letter call's work, part by part: the step on labelled sites, the labels before it, the candidates before both.
-ghost use Rattle.std.specs.Prelude.{[], ◌∷◌, length};
-ghost use Rattle.definitions.specs.SiteCalls.{letter_conditions};
+ghost use Rattle.std.specs.Prelude.{◌≤◌, length, take};
+ghost use Rattle.definitions.specs.SiteCalls.{letter_conditions, letter_rooms};
 ghost use Rattle.laws.specs.Verdicts.{Passed};
-ghost use Rattle.base_cell.specs.Given.{arguments_of};
-ghost use Rattle.symmetrize_wyckoff.specs.Given.{letter_arguments_of, placed_of};
+ghost use Rattle.base_cell.specs.Given.{arguments_of, orbit_cells, SameRooms, SameOrbits};
+ghost use Rattle.data_wyckoff.specs.Spaces.{lists};
+ghost use Rattle.symmetrize_wyckoff.specs.Given.{letter_arguments_of, letter_cells, placed_of};
 ghost use Rattle.symmetrize_wyckoff.specs.Lettering.{AssignJudged, Labellable, LabelledJudged, LetterJudged, assign_with};
+ghost use Rattle.symmetrize_wyckoff.specs.Lettering.{first_spaces, placed_by, SpacesListed};
 
 use crate::arguments::{Lettering, Placed};
 use crate::assign_wyckoffs_by_orbit;
-use base_cell::label_sites;
 use base_cell::verdicts::Labelling;
-use data_wyckoff::space::prepare_all;
+use base_cell::{Orbits, label_sites};
+use data_wyckoff::space::{Spaces, prepare_all};
 use definitions::limits::MOST_CANDIDATES;
-use definitions::{Verdict, refusal};
+use definitions::{Refusal, Verdict};
 
-impl Placed<'_> {
-    // 10 of the letters, 13
-    fn letter_groups(&self, labels: &[u16], multiplicities: &[u16], letters: &mut [u8]) -> Verdict
-        ensures { AssignJudged (assign_with (placed_of self.now) labels.now multiplicities.now) letters.old letters.new result }
+impl Placed<'_, '_, '_> {
+    // 10 of the letters, 13, of the first n labels and multiplicities. The orbits are lent shared: behind an exclusive
+    // loan the borrow checker takes no parts of both lists at once.
+    fn letter_groups(&self, n: usize, orbits: &Orbits, letters: &mut [u8]) -> Verdict
+        requires { (n ≤ length orbits.now.labels.now) × (n ≤ length orbits.now.multiplicities.now) }
+        ensures { AssignJudged
+            (assign_with (placed_of self.now) (take n orbits.now.labels.now) (take n orbits.now.multiplicities.now))
+            letters.old letters.new result }
     {
-        if letters.len() < labels.len() {
-            return Verdict::Refused(refusal::BUFFER);
+        if letters.len() < n {
+            return Err(Refusal::Buffer);
         }
-        let whole = assign_wyckoffs_by_orbit(
-            labels,
-            multiplicities,
-            self.positions,
-            self.basis,
-            self.symprec,
-            self.candidates,
-            self.letters,
-            self.matrices,
-            self.shifts,
-            self.ds,
-            self.ls,
-            self.rs,
+        assign_wyckoffs_by_orbit(
+            &orbits.labels[..n],
+            &orbits.multiplicities[..n],
+            self,
             letters,
-        );
-        if !whole {
-            return Verdict::Refused(refusal::ORBIT_FIT);
-        }
-        Verdict::Accepted
+        )
     }
 
     // 9, 10, 13
     fn letter_labelled(
         &self,
         labelling: &Labelling,
-        labels: &mut [u16],
-        multiplicities: &mut [u16],
+        orbits: &mut Orbits,
         letters: &mut [u8],
     ) -> Verdict
         requires { Labellable (arguments_of labelling.now) (placed_of self.now) }
-        ensures { LabelledJudged (arguments_of labelling.now) (placed_of self.now)
-            (record {
-              labels = labels.old;
-              multiplicities = multiplicities.old;
-              letters = letters.old;
-            })
-            (record {
-              labels = labels.new;
-              multiplicities = multiplicities.new;
-              letters = letters.new;
-            }) result }
+        ensures judged { LabelledJudged (arguments_of labelling.now) (placed_of self.now)
+            (letter_cells (orbit_cells orbits.old) letters.old)
+            (letter_cells (orbit_cells orbits.new) letters.new) result }
+        ensures rooms { SameRooms (orbit_cells orbits.old) (orbit_cells orbits.new) }
+        ensures same_lists { SameOrbits orbits.old orbits.new }
     {
-        let labelled = label_sites(
-            labelling.sites,
-            labelling.count,
-            labelling.images,
-            labelling.mapping,
-            labels,
-            multiplicities,
-        );
-        let n = labelling.mapping.len();
-        match labelled {
-            Verdict::Accepted => self.letter_groups(&labels[..n], &multiplicities[..n], letters),
-            Verdict::Refused(k) => Verdict::Refused(k),
-        }
+        label_sites(labelling, orbits)?;
+        self.letter_groups(labelling.mapping.len(), orbits, letters)
     }
 }
 
 impl Lettering<'_> {
+    // 9, 10, 13, by the spaces of the candidates
+    fn letter_spaces(&self, spaces: &Spaces, orbits: &mut Orbits, letters: &mut [u8]) -> Verdict
+        requires { SpacesListed (letter_arguments_of self.now) (lists spaces.now) }
+        ensures judged { LabelledJudged (arguments_of self.now.labelling)
+            (placed_by (letter_arguments_of self.now)
+            (first_spaces (length self.now.texts.now) (lists spaces.now)))
+            (letter_cells (orbit_cells orbits.old) letters.old)
+            (letter_cells (orbit_cells orbits.new) letters.new) result }
+        ensures rooms { SameRooms (orbit_cells orbits.old) (orbit_cells orbits.new) }
+        ensures same_lists { SameOrbits orbits.old orbits.new }
+    {
+        let m = self.texts.len();
+        let placed = Placed {
+            positions: self.positions,
+            basis: self.basis,
+            symprec: self.symprec,
+            candidates: self.multiplicities,
+            letters: self.letters,
+            matrices: &spaces.matrices[..m],
+            shifts: &spaces.shifts[..m],
+            ds: &spaces.ds[..m],
+            ls: &spaces.ls[..m],
+            rs: &spaces.rs[..m],
+        };
+        placed.letter_labelled(&self.labelling, orbits, letters)
+    }
+
     // 6, 8, 9, 10, 13: each candidate is prepared once, for all sites.
-    pub(crate) fn letter_prepared(
-        &self,
-        labels: &mut [u16],
-        multiplicities: &mut [u16],
-        letters: &mut [u8],
-    ) -> Verdict
+    pub(crate) fn letter_prepared(&self, orbits: &mut Orbits, letters: &mut [u8]) -> Verdict
         requires { Passed
             (letter_conditions (letter_arguments_of self.now)
-            (length labels.old ∷ length multiplicities.old ∷ length letters.old ∷ [])) 3 }
-        ensures { LetterJudged (letter_arguments_of self.now)
-            (record {
-              labels = labels.old;
-              multiplicities = multiplicities.old;
-              letters = letters.old;
-            })
-            (record {
-              labels = labels.new;
-              multiplicities = multiplicities.new;
-              letters = letters.new;
-            }) result }
+            (letter_rooms (letter_cells (orbit_cells orbits.old) letters.old))) 3 }
+        ensures judged { LetterJudged (letter_arguments_of self.now)
+            (letter_cells (orbit_cells orbits.old) letters.old)
+            (letter_cells (orbit_cells orbits.new) letters.new) result }
+        ensures rooms { SameRooms (orbit_cells orbits.old) (orbit_cells orbits.new) }
+        ensures same_lists { SameOrbits orbits.old orbits.new }
     {
         let mut matrices = [[[0; 3]; 3]; MOST_CANDIDATES];
         let mut shifts = [[0.0; 3]; MOST_CANDIDATES];
         let mut ds = [[[0; 3]; 3]; MOST_CANDIDATES];
         let mut ls = [[[0; 3]; 3]; MOST_CANDIDATES];
         let mut rs = [[[0; 3]; 3]; MOST_CANDIDATES];
-        let prepared = prepare_all(
-            self.texts,
-            &mut matrices,
-            &mut shifts,
-            &mut ds,
-            &mut ls,
-            &mut rs,
-        );
-        let m = self.texts.len();
-        match prepared {
-            Verdict::Accepted => {
-                let placed = Placed {
-                    positions: self.positions,
-                    basis: self.basis,
-                    symprec: self.symprec,
-                    candidates: self.multiplicities,
-                    letters: self.letters,
-                    matrices: &matrices[..m],
-                    shifts: &shifts[..m],
-                    ds: &ds[..m],
-                    ls: &ls[..m],
-                    rs: &rs[..m],
-                };
-                placed.letter_labelled(&self.labelling, labels, multiplicities, letters)
-            }
-            Verdict::Refused(k) => Verdict::Refused(k),
-        }
+        let mut lent = Spaces {
+            matrices: &mut matrices,
+            shifts: &mut shifts,
+            ds: &mut ds,
+            ls: &mut ls,
+            rs: &mut rs,
+        };
+        prepare_all(self.texts, &mut lent)?;
+        self.letter_spaces(&lent, orbits, letters)
     }
 }

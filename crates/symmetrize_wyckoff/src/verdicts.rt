@@ -7,7 +7,7 @@ ghost use Rattle.symmetrize_wyckoff.specs.Lettering.{GivenJudged, bad_lists};
 use crate::arguments::Lettering;
 use checks::{all_cells_within, good_symprec, lattice_within};
 use definitions::limits::MOST_CANDIDATES;
-use definitions::{Verdict, refusal};
+use definitions::{Refusal, Verdict};
 
 impl Lettering<'_> {
     // A multiplicity, a letter and a text a candidate; a position a mapping entry.
@@ -35,17 +35,17 @@ impl Lettering<'_> {
         ensures { GivenJudged (letter_arguments_of self.now) result }
     {
         if self.labelling.bad_counts() {
-            return Verdict::Refused(refusal::COUNTS);
+            return Err(Refusal::Counts);
         }
         if self.bad_lists() {
-            return Verdict::Refused(refusal::COUNTS);
+            return Err(Refusal::Counts);
         }
         if self.bad_floats() {
-            return Verdict::Refused(refusal::FLOAT_RANGE);
+            return Err(Refusal::FloatRange);
         }
         if self.labelling.bad_sites() {
-            return Verdict::Refused(refusal::SITE_IMAGE);
+            return Err(Refusal::SiteImage);
         }
-        Verdict::Accepted
+        Ok(())
     }
 }

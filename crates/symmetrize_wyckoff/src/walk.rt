@@ -1,13 +1,12 @@
 // The walk of moyo's `assign_wyckoffs_by_orbit`: one pass over the sites, which notes each orbit's letter in a table.
-ghost use Rattle.std.specs.Prelude.{◌≡◌, length};
+ghost use Rattle.std.specs.Prelude.{length};
 ghost use Rattle.symmetrize_wyckoff.specs.Walk.{walked};
 ghost use Rattle.symmetrize_wyckoff.specs.Given.{candidates_of};
 ghost use Rattle.symmetrize_wyckoff.specs.Prepared.{found_by, Together, Walkable, NotesAll};
 
 use crate::find::Candidates;
 use definitions::limits::MOST_LISTED;
-use definitions::{Basis, Cells};
-use math_real::position;
+use definitions::{Cells, Position};
 
 // The letter of each label, where it has one.
 pub(crate) type Letters = [Option<u8>; MOST_LISTED];
@@ -17,8 +16,6 @@ pub(crate) fn note_letters(
     labels: &[u16],
     multiplicities: &[u16],
     positions: &[Cells],
-    basis: Basis,
-    symprec: f64,
     candidates: &Candidates,
 ) -> Letters
     requires { Walkable labels.now multiplicities.now positions.now × Together (candidates_of candidates.now) }
@@ -28,8 +25,8 @@ pub(crate) fn note_letters(
         (record {
           multiplicities = multiplicities.now;
           positions = positions.now;
-          basis = basis;
-          symprec = symprec;
+          basis = candidates.now.basis;
+          symprec = candidates.now.symprec;
           candidates = candidates_of candidates.now;
         }))
         labels.now (length labels.now))
@@ -39,8 +36,8 @@ pub(crate) fn note_letters(
     for j in 0..labels.len() {
         let label = usize::from(labels[j]);
         if table[label].is_none() {
-            let at = position::position_of(positions[j]);
-            table[label] = candidates.find_letter(basis, symprec, multiplicities[j], at);
+            let at = Position::from(positions[j]);
+            table[label] = candidates.find_letter(multiplicities[j], at);
         }
     }
     table

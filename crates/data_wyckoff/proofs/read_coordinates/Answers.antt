@@ -1,6 +1,7 @@
 -- By what was read.
 use mathlib.Core.Path.{refl}
-use Rattle.definitions.specs.declared.Verdict.TheVariants.{Refused}
+use Rattle.std.specs.Prelude.{Err}
+use Rattle.definitions.specs.declared.Refusal.TheVariants.{Coordinates}
 use Rattle.definitions.specs.SiteCalls.{text_conditions}
 use Rattle.laws.specs.Verdicts.{verdict_of, found_at_lem, found_none, Passed, HoldsAt, accept, refuse}
 use Rattle.data_wyckoff.proofs.read_coordinates.Goals as goal
@@ -13,4 +14,4 @@ returns-in-Some c =
 
 pub returns-in-None : goal.returns-in-None
 unfolding verdict_of found_at_lem
-returns-in-None c = (refuse (text_conditions c.args.text.now) 0 tt c.in-None.ensures (Refused 6) refl, (refl, refl))
+returns-in-None c = (refuse (text_conditions c.args.text.now) 0 tt c.in-None.ensures (Err Coordinates) refl, (refl, refl))

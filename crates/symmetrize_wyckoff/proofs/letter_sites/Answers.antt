@@ -1,65 +1,39 @@
 -- `letter_sites`: the verdict is `judge`'s; refused, the lists are cleared whole.
-use mathlib.Core.Path.{ap, ◌∙◌}
+use mathlib.Core.Path.{sym, ap, ◌∙◌}
 use mathlib.Core.List.{[]}
 use Rattle.definitions.specs.Refusal.{padded}
 use Rattle.definitions.specs.SiteCalls.{LetterArguments, LetterCells}
+use Rattle.base_cell.specs.Given.{orbit_cells}
+use Rattle.symmetrize_wyckoff.specs.Given.{letter_arguments_of, letter_cells}
 use Rattle.symmetrize_wyckoff.proofs.Promise.{keep-accepted, keep_refused}
 use Rattle.symmetrize_wyckoff.proofs.letter_sites.Goals as goal
 use Rattle.symmetrize_wyckoff.proofs.letter_sites.Goals.{Start}
 
 abbrev given : Start → LetterArguments
-given s =
-    record {
-      labelling =
-          record {
-            sites = s.args.sites;
-            count = s.args.count;
-            images = s.args.images.now;
-            mapping =
-                s.args.mapping.now;
-          };
-      positions = s.args.positions.now;
-      basis = s.args.basis;
-      multiplicities = s.args.candidates.now;
-      letters = s.args.candidate_letters.now;
-      texts = s.args.texts.now;
-      symprec = s.args.symprec;
-    }
+given s = letter_arguments_of s.args.given.now
 
 abbrev lent : Start → LetterCells
-lent s =
-    record {
-      labels = s.args.labels.now;
-      multiplicities = s.args.multiplicities.now;
-      letters = s.args.letters.now;
-    }
+lent s = letter_cells (orbit_cells s.args.orbits.now) s.args.letters.now
 
-pub returns-in-Accepted : goal.returns-in-Accepted
-returns-in-Accepted c =
-    let v = c.judge-v in
-    keep-accepted (given (goal.at.returns-in-Accepted c).Start) (lent (goal.at.returns-in-Accepted c).Start) v.result
-    (record {
-      labels = v.new.labels;
-      multiplicities =
-          v.new.multiplicities;
-      letters = v.new.letters;
-    })
-    c.in-Accepted.is v.ensures
+pub returns-else-is_err-clause-lettered : goal.returns-else-is_err-clause-lettered
+returns-else-is_err-clause-lettered c =
+    let s = (goal.at.returns-else-is_err-clause-lettered c).Start in
+    let v = c.judge-verdict in
+    keep-accepted (given s) (lent s) v.result (letter_cells (orbit_cells v.new.orbits) v.new.letters)
+    (sym c.is_err.ensures.value ∙ c.if-is_err.false) v.ensures.judged
 
-pub returns-in-Refused : goal.returns-in-Refused
-returns-in-Refused c =
-    let v = c.judge-v in
-    let l = c.clear in
-    let m = c.clear-in-Refused in
-    let n = c.clear-in-Refused-2 in
-    keep_refused (given (goal.at.returns-in-Refused c).Start) (lent (goal.at.returns-in-Refused c).Start) v.result
+pub returns-then-is_err-clause-lettered : goal.returns-then-is_err-clause-lettered
+returns-then-is_err-clause-lettered c =
+    let s = (goal.at.returns-then-is_err-clause-lettered c).Start in
+    let v = c.judge-verdict in
+    let o = v.new.orbits in
+    let rooms = v.ensures.rooms in
+    let zero = c.clear.ensures.zero in
+    keep_refused (given s) (lent s) v.result (letter_cells (orbit_cells o) v.new.letters)
+    (letter_cells (orbit_cells c.clear.new.self) c.clear-then-is_err.new.out)
+    (sym c.is_err.ensures.value ∙ c.if-is_err.true) v.ensures.judged
     (record {
-      labels = v.new.labels;
-      multiplicities =
-          v.new.multiplicities;
-      letters = v.new.letters;
+      labels = zero.labels ∙ ap (padded 0 []) rooms.labels;
+      multiplicities = zero.multiplicities ∙ ap (padded 0 []) rooms.multiplicities;
+      letters = c.clear-then-is_err.ensures ∙ ap (padded 0 []) v.auto.letters;
     })
-    (record { labels = l.new.out; multiplicities = m.new.out; letters = n.new.out })
-    c.in-Refused.is v.ensures (l.ensures ∙ ap (padded 0 []) v.auto.labels)
-    (m.ensures ∙ ap (padded 0 []) v.auto.multiplicities)
-    (n.ensures ∙ ap (padded 0 []) v.auto.letters)

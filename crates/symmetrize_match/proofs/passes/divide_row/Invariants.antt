@@ -9,4 +9,4 @@ use Rattle.symmetrize_match.proofs.passes.divide_row.Given as goal
 abbrev pub invariant-loop-i : goal.invariant-loop-i
 invariant-loop-i g l =
     (length l.out ≡ g.row.N)
-    × ((j : ℕ) → j < l.i → get_or l.out j nan ≡ div binary64 (row_times l.row (sub_p (add_p (cell l.offsets.x l.offsets.y l.offsets.z j) l.p) l.shift)) l.d)
+    × ((j : ℕ) → j < l.i → get_or l.out j nan ≡ div binary64 (row_times l.row.left (sub_p (add_p (cell l.offsets.x l.offsets.y l.offsets.z j) l.p) l.shift)) l.row.d)

@@ -18,8 +18,8 @@ sites s =
     record {
       multiplicities = s.args.multiplicities.now;
       positions = s.args.positions.now;
-      basis = s.args.basis;
-      symprec = s.args.symprec;
+      basis = s.args.candidates.now.basis;
+      symprec = s.args.candidates.now.symprec;
       candidates = candidates_of s.args.candidates.now;
     }
 
@@ -80,7 +80,7 @@ next c =
                 w.find_letter.result
                 (w.find_letter.ensures
                 ∙ ap (λ p. found (found_real g.basis g.symprec (get_or g.multiplicities l.j 0) p g.candidates))
-                w.position_of-at.ensures),
+                w.from-at.ensures),
           )
       | else-is_none w ↦
           subst (λ t. (length t ≡ 1024) × NotesAll (walked f ls (l.j + 1)) t) (sym w.table-is)

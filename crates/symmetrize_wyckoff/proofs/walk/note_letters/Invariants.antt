@@ -14,8 +14,8 @@ invariant-loop-j l =
     (record {
       multiplicities = l.multiplicities;
       positions = l.positions;
-      basis = l.basis;
-      symprec = l.symprec;
+      basis = l.candidates.basis;
+      symprec = l.candidates.symprec;
       candidates = candidates_of l.candidates;
     }))
     l.labels l.j)

@@ -7,18 +7,17 @@ use Rattle.symmetrize_match.proofs.Near.{on_fit, on_miss, at_end_lem}
 use borrow.Author.Rules.{rules}
 use Rattle.symmetrize_match.proofs.bound.Tolerance.first_near.Goals as goal
 
-pub returns-in-Fits : goal.returns-in-Fits
-returns-in-Fits c =
+pub returns-in-Some : goal.returns-in-Some
+returns-in-Some c =
     let a = c.args in
-    let r = c.near-tried in
+    let r = c.near in
     let l = c.loop-i in
-    c.in-Fits.is
-    ∙ sym (l.invariant ∙ on_fit a.self.symprec a.squares.now (a.from + l.i) l.i r.result _ _ (search rules) r.ensures c.in-Fits.is)
+    sym (l.invariant ∙ on_fit a.self.symprec a.squares.now (a.from + l.i) l.i r.result _ (search rules) r.ensures c.in-Some.is)
 
 pub loop-i-preserved : goal.loop-i-preserved
 loop-i-preserved c =
     let a = c.args in
-    let r = c.near-tried in
+    let r = c.near in
     let l = c.loop-i in
     l.invariant ∙ rw add_assoc at (on_miss a.self.symprec a.squares.now (a.from + l.i) l.i r.result (search rules) r.ensures c.in_default.is)
 

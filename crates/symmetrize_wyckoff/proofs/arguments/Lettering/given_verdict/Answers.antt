@@ -4,7 +4,8 @@ use mathlib.Core.Path.{◌≡◌, refl, sym, ◌∙◌}
 use mathlib.Core.Bool.{Bool, ◌||◌}
 use mathlib.Core.List.{List}
 use lib.ListN.{length}
-use Rattle.definitions.specs.declared.Verdict.TheVariants.{Refused}
+use Rattle.std.specs.Prelude.{Err}
+use Rattle.definitions.specs.declared.Refusal.TheVariants.{Counts, FloatRange, SiteImage}
 use Rattle.definitions.specs.Lent.{unlike, bad_permutation_counts}
 use Rattle.definitions.specs.Limits.{too_many_candidates}
 use Rattle.definitions.specs.SiteCalls.{LetterArguments, bad_letter_counts, letter_conditions}
@@ -58,7 +59,7 @@ unfolding verdict_of found_at_lem Passed HoldsAt
 returns-then-bad_counts c = λ rooms.
     let x = given (goal.at.returns-then-bad_counts c).Start in
     refuse (letter_conditions x rooms) 0 tt
-    (so (counts_are x ∙ or_left (bad_lists x) (sym c.bad_counts.ensures ∙ c.if-bad_counts.true))) (Refused 2)
+    (so (counts_are x ∙ or_left (bad_lists x) (sym c.bad_counts.ensures ∙ c.if-bad_counts.true))) (Err Counts)
     refl
 
 pub returns-then-bad_lists : goal.returns-then-bad_lists
@@ -66,7 +67,7 @@ unfolding verdict_of found_at_lem Passed HoldsAt
 returns-then-bad_lists c = λ rooms.
     let x = given (goal.at.returns-then-bad_lists c).Start in
     refuse (letter_conditions x rooms) 0 tt
-    (so (counts_are x ∙ or_right (permutations x) (sym c.bad_lists.ensures ∙ c.if-bad_lists.true))) (Refused 2)
+    (so (counts_are x ∙ or_right (permutations x) (sym c.bad_lists.ensures ∙ c.if-bad_lists.true))) (Err Counts)
     refl
 
 pub returns-then-bad_floats : goal.returns-then-bad_floats
@@ -74,7 +75,7 @@ unfolding verdict_of found_at_lem HoldsAt
 returns-then-bad_floats c = λ rooms.
     refuse (letter_conditions (given (goal.at.returns-then-bad_floats c).Start)
     rooms) 1 (past₂ (goal.at.returns-then-bad_floats c).Else-bad_lists rooms) (so (sym c.bad_floats.ensures ∙ c.if-bad_floats.true))
-    (Refused 4) refl
+    (Err FloatRange) refl
 
 pub returns-then-bad_sites : goal.returns-then-bad_sites
 unfolding verdict_of found_at_lem HoldsAt
@@ -82,7 +83,7 @@ returns-then-bad_sites c = λ rooms.
     refuse (letter_conditions
     (given (goal.at.returns-then-bad_sites c).Start) rooms) 2
     (past₃ (goal.at.returns-then-bad_sites c).Else-bad_floats rooms) (so (sym c.bad_sites.ensures ∙ c.if-bad_sites.true))
-    (Refused 5) refl
+    (Err SiteImage) refl
 
 pub returns : goal.returns
 unfolding HoldsAt

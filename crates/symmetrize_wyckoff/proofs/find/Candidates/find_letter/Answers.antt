@@ -18,8 +18,8 @@ returns-then-fit c =
     let a = c.args in
     let l = c.loop-k in
     let cs = candidates_of a.self.now in
-    let t = fits_real a.basis a.symprec a.multiplicity a.position cs in
-    found_letter a.basis a.symprec a.multiplicity a.position cs l.k
+    let t = fits_real a.self.now.basis a.self.now.symprec a.multiplicity a.position cs in
+    found_letter a.self.now.basis a.self.now.symprec a.multiplicity a.position cs l.k
     (l.invariant ∙ place_hit t (length cs.multiplicities) l.k (omega arith) (sym c.fits-fit.ensures ∙ c.if-fit.true))
 
 pub loop-k-preserved : goal.loop-k-preserved
@@ -27,7 +27,7 @@ loop-k-preserved c =
     let a = c.args in
     let l = c.loop-k in
     let cs = candidates_of a.self.now in
-    let t = fits_real a.basis a.symprec a.multiplicity a.position cs in
+    let t = fits_real a.self.now.basis a.self.now.symprec a.multiplicity a.position cs in
     l.invariant ∙ place_miss t (length cs.multiplicities) l.k (omega arith) (sym c.fits-fit.ensures ∙ c.if-fit.false)
 
 pub returns : goal.returns
@@ -35,5 +35,5 @@ returns c =
     let a = c.args in
     let l = c.loop-k in
     let cs = candidates_of a.self.now in
-    let t = fits_real a.basis a.symprec a.multiplicity a.position cs in
-    found_none a.basis a.symprec a.multiplicity a.position cs (l.invariant ∙ place_end t (length cs.multiplicities) l.k (omega arith))
+    let t = fits_real a.self.now.basis a.self.now.symprec a.multiplicity a.position cs in
+    found_none a.self.now.basis a.self.now.symprec a.multiplicity a.position cs (l.invariant ∙ place_end t (length cs.multiplicities) l.k (omega arith))
