@@ -1,21 +1,21 @@
--- What the call knows past the first five conditions, and how it keeps its promise.
+-- What the call knows past the first five conditions, and the verdict by 11.
 use Prim.Native.Nat.{ℕ, ◌*◌, ◌≤◌}
 use mathlib.Core.Path.{◌≡◌, refl}
 use mathlib.Core.Bool.{false, ◌||◌}
-use mathlib.Core.List.{List, []}
+use mathlib.Core.List.{List}
 use lib.ListN.{length}
 use borrow.Author.Tests.{ltb-false, eqb-true, not-false}
-use Rattle.definitions.specs.declared.Verdict.{Verdict}
-use Rattle.definitions.specs.declared.Verdict.TheVariants.{Accepted, Refused}
-use Rattle.definitions.specs.Calls.{align_conditions, AlignPromise}
+use Rattle.std.specs.Prelude.{Err, Ok}
+use Rattle.definitions.specs.declared.Refusal.TheVariants.{TargetRotation}
+use Rattle.definitions.specs.Calls.{align_conditions}
 use Rattle.definitions.specs.Lent.{bad_permutation_counts, unlike}
-use Rattle.definitions.specs.Limits.{most_sites, most_operations, not_some, too_many_sites}
+use Rattle.definitions.specs.Limits.{most_sites, not_some, too_many_sites}
 use Rattle.definitions.specs.Matrix.{Matrix}
-use Rattle.definitions.specs.Refusal.{Condition, padded}
-use Rattle.laws.specs.Limits.{few, few_entries}
+use Rattle.definitions.specs.Refusal.{Condition, Verdict}
+use Rattle.laws.specs.Limits.{few}
 use Rattle.laws.specs.Tests.{off, so, not_so, neither_left, neither_right}
 use Rattle.laws.specs.Verdicts.{HoldsAt, Passed, pass, found_at_lem, found_none, refuse, accept, verdict_of}
-use Rattle.symmetrize_align.specs.Aligning.{Known, Settled, Given}
+use Rattle.symmetrize_align.specs.Aligning.{Known, Aligned, Written}
 
 -- what the test of the counts says: of n sites, k operations and m targets
 module _ (n k : ℕ) (images : List ℕ) (m : ℕ) (e : (bad_permutation_counts n k images || not_some m) ≡ false) where
@@ -30,9 +30,6 @@ module _ (n k : ℕ) (images : List ℕ) (m : ℕ) (e : (bad_permutation_counts 
 
   some_targets : not_some m ≡ false
   some_targets = neither_right (bad_permutation_counts n k images) (not_some m) e
-
-  pub answer_small : m * n ≤ most_operations * most_sites
-  answer_small = few_entries n m some_targets few_sites
 
   pub known_by : (room : ℕ) → m * n ≤ room → Known k images n m room
   known_by room h = record {
@@ -52,22 +49,17 @@ module _ (t : Matrix) (rs : List Matrix) (images : List ℕ) (n : ℕ) (gs : Lis
       known_by n (length rs) images (length gs) (off _ p.0) room
       (ltb-false room (length gs * n) (off _ p.1.1.1.1.0))
 
--- ---- the promise
+-- ---- the verdict
 
 module _ (t : Matrix) (rs : List Matrix) (images : List ℕ) (n : ℕ) (gs : List Matrix) (old : List ℕ) where
   abbrev conditions : List Condition
   conditions = align_conditions t rs images n gs (length old)
 
-  -- past the first five, by 11
-  pub promise_settled :
-      Passed conditions 5 → (new : List ℕ) (v : Verdict) → Settled t rs images n gs old new v →
-      AlignPromise t rs images n gs old new v
+  -- past the first five conditions, by 11
+  pub written_past :
+      Passed conditions 5 → (new : List ℕ) (v : Verdict) → Aligned t rs images n gs old new v →
+      Written t rs images n gs old new v
   unfolding verdict_of found_at_lem found_none HoldsAt
-  promise_settled p new Accepted s = (accept _ (pass conditions 5 p (not_so s.0)) refl, s.1)
-  promise_settled p new (Refused k) s = (rw s.0 (refuse conditions 5 p (so s.1) (Refused 11) refl), s.2)
-
-  -- and by one of them
-  pub promise_refused :
-      (v : Verdict) (k : ℕ) → v ≡ Refused k → Given conditions v → (new : List ℕ) → new ≡ padded 0 [] (length old) →
-      AlignPromise t rs images n gs old new v
-  promise_refused v k e g new z = rw e (rw e at g, z)
+  written_past p new (Ok u) s =
+      (known t rs images n gs (length old) p, accept _ (pass conditions 5 p (not_so s.0)) refl, s.1, s.2)
+  written_past p new (Err r) s = rw s.0 (refuse conditions 5 p (so s.1) (Err TargetRotation) refl)

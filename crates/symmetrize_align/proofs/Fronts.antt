@@ -1,7 +1,8 @@
 -- The lists that f makes of the targets, written one behind the other: those of the first i, then what was there.
 use Prim.Native.Nat.{ℕ, suc, ◌+◌, ◌-◌, ◌*◌, ◌≤◌, ◌<◌}
 use mathlib.Core.Path.{◌≡◌, refl, sym, ap, subst, ◌∙◌}
-use mathlib.Core.Bool.{Bool, true, false, not}
+use mathlib.Core.Bool.{Bool, true, false}
+use Rattle.std.specs.Prelude.{Ok, Err}
 use mathlib.Core.List.{List, [], ◌∷◌, ◌++◌, map, append_assoc, append-nil}
 use mathlib.Core.Option.{Option, some}
 use native.Mathlib.Omega.{arith}
@@ -10,6 +11,7 @@ use lib.ListN.{length, get_or, take, drop, length-append, length-take, length-dr
 use lib.Seq.{take-suc, take_all, drop-cons, take_at, drop_at, drop-drop}
 use Rattle.definitions.specs.Lists.{any, each}
 use Rattle.definitions.specs.Matrix.{Matrix}
+use Rattle.definitions.specs.Refusal.{Verdict}
 use Rattle.definitions.specs.Transformation.{transform_rotation, is_none, operation_for, permutation_or}
 use Rattle.definitions.specs.Transformation.{rotation_absent, aligned_to}
 use Rattle.laws.specs.Lists.{any_head, part_of, next_part}
@@ -108,26 +110,28 @@ part_long l n from h = simp (length-take, length-drop) (omega arith)
 
 -- as the code lends them
 module _ (t : Matrix) (rs held d : List Matrix) (e : held ≡ map (transform_rotation t) rs ++ d) where
-  pub lent_is : take (length rs - 0) held ≡ map (transform_rotation t) rs
-  lent_is =
-      let z : length rs - 0 ≡ length rs = omega arith in
-      rw (e, z) (take_at (map (transform_rotation t) rs) d (length rs) (length-map rs (transform_rotation t)))
+  pub lent_is : take (length rs) held ≡ map (transform_rotation t) rs
+  lent_is = rw e (take_at (map (transform_rotation t) rs) d (length rs) (length-map rs (transform_rotation t)))
 
 module _ (t : Matrix) (rs ms : List Matrix) (images : List ℕ) (n : ℕ) (gs : List Matrix) where
   pub aligned_by_lem :
-      ms ≡ map (transform_rotation t) rs → {old new : List ℕ} {r : Bool} → Put ms images n gs old new r →
-      Aligned t rs images n gs old new r
+      ms ≡ map (transform_rotation t) rs → (old new : List ℕ) (v : Verdict) → Put ms images n gs old new v →
+      Aligned t rs images n gs old new v
   unfolding rotation_absent aligned_to
-  aligned_by_lem e {old} {new} {r} p = record {
-    none_absent = p.none_absent ∙ (λ i. not (any (λ g. is_none (same g i)) gs));
-    long = λ q. sym (ap length answer) ∙ p.long q;
-    front = λ q. p.front q ∙ ap (λ (l : List ℕ). l ++ drop (length gs * n) old) answer;
-  }
+  aligned_by_lem e old new = by
     where
       same : (g : Matrix) → last_of ms g ≡ operation_for t rs g
       same g = ap (λ (l : List Matrix). last_of l g) e ∙ transformed_last t rs g
+
+      absent : any (λ g. is_none (last_of ms g)) gs ≡ any (λ g. is_none (operation_for t rs g)) gs
+      absent i = any (λ g. is_none (same g i)) gs
 
       answer : each (aligned_by ms images n) gs ≡ each (λ p. p) (aligned_to n t rs images gs)
       answer =
           (λ i. each (λ g. permutation_or n images (same g i)) gs)
           ∙ sym (each-mapped (λ g. permutation_or n images (operation_for t rs g)) gs)
+
+      by : (v : Verdict) → Put ms images n gs old new v → Aligned t rs images n gs old new v
+      by (Ok u) p =
+          (sym absent ∙ p.0, sym (ap length answer) ∙ p.1, p.2 ∙ ap (λ (l : List ℕ). l ++ drop (length gs * n) old) answer)
+      by (Err r) p = (p.0, sym absent ∙ p.1)

@@ -4,7 +4,9 @@ use mathlib.Core.Path.{◌≡◌, refl, sym, ap, subst, ◌∙◌}
 use mathlib.Core.Bool.{Bool, true, false}
 use mathlib.Core.List.{List, [], ◌∷◌, ◌++◌, map, reverse, reverse-append}
 use mathlib.Core.Option.{Option, none, some}
-use Rattle.std.specs.Prelude.{Some, None}
+use Rattle.std.specs.Prelude.{Option as Found, Ok, Err}
+use Rattle.std.specs.Option.{ok_or}
+use Rattle.definitions.specs.declared.Refusal.{Refusal}
 use native.Mathlib.Omega.{arith}
 use lib.ListN.{length, get_or, length-map}
 use Rattle.definitions.specs.Lists.{first, up_from, up_to}
@@ -88,11 +90,11 @@ module _ (ms : List Matrix) (g : Matrix) where
       by true e r = let h : k < suc k = omega arith in subst (Below (suc k)) (sym (last_hit k e)) h
       by false e r = subst (Below (suc k)) (sym (last_miss k e)) r
 
-  -- the place that the search gives its caller
-  pub found_at : (k : ℕ) → Some k ≡ found (last_of ms g) → last_of ms g ≡ some k
-  found_at k = by (last_of ms g)
+  -- the place that the search gives its caller, who refuses with r where there is none
+  pub found_at : (k : ℕ) (q : Found ℕ) (r : Refusal) → Ok k ≡ ok_or q r → q ≡ found (last_of ms g) → last_of ms g ≡ some k
+  found_at k q r e h = by (last_of ms g) (e ∙ ap (λ (o : Found ℕ). ok_or o r) h)
     where
-      by : (o : Option ℕ) → Some k ≡ found o → o ≡ some k
+      by : (o : Option ℕ) → Ok k ≡ ok_or (found o) r → o ≡ some k
       by none e = absurd (cc)
       by (some j) e = let h : k ≡ j = cc in ap some (sym h)
 
@@ -100,9 +102,13 @@ module _ (ms : List Matrix) (g : Matrix) where
   found_below k e = subst (Below (length ms)) e (last_below_lem (length ms))
 
 -- and that it gives none
-pub absent : (o : Option ℕ) → None ≡ found o → is_none o ≡ true
-absent none e = refl
-absent (some k) e = absurd (cc)
+pub absent :
+    (o : Option ℕ) (q : Found ℕ) (j r : Refusal) → Err j ≡ ok_or q r → q ≡ found o → (j ≡ r) × (is_none o ≡ true)
+absent o q j r e h = by o (e ∙ ap (λ (o : Found ℕ). ok_or o r) h)
+  where
+    by : (o : Option ℕ) → Err j ≡ ok_or (found o) r → (j ≡ r) × (is_none o ≡ true)
+    by none e = (cc, refl)
+    by (some k) e = absurd (cc)
 
 -- ---- in the transformed rotations
 

@@ -8,76 +8,62 @@ mod verdicts;
 
 ghost use Rattle.std.specs.Prelude.{length};
 ghost use Rattle.definitions.specs.Calls.{AlignPromise};
-ghost use Rattle.symmetrize_align.specs.Aligning.{Known, Aligned, Settled};
+ghost use Rattle.symmetrize_align.specs.Aligning.{Known, Aligned, Written};
 
 use definitions::limits::MOST_OPERATIONS;
-use definitions::{Integers, Linear, Rotation, Verdict, refusal};
-use lent::clear;
+use definitions::{Integers, Linear, Rotation, Verdict};
+use lent::{Zero, clear};
 
-// What stands at a place of the table before a rotation does; past the operations it is not read.
-const NOTHING: Integers = [[0, 0, 0], [0, 0, 0], [0, 0, 0]];
+// The operations: a rotation each, and the images of all sites under it.
+#[derive(Clone, Copy)]
+pub struct Operations<'a> {
+    pub rotations: &'a [Rotation],
+    pub images: &'a [u8],
+    pub sites: usize,
+}
 
 // Each operation's rotation is transformed once, however many targets there are.
 fn transform_and_put(
     t: Linear,
-    rotations: &[Rotation],
-    images: &[u8],
-    sites: usize,
-    targets: &[Rotation],
-    out: &mut [u8],
-) -> bool
-    requires { Known (length rotations.now) images.now sites (length targets.now) (length out.old) }
-    ensures { Aligned t rotations.now images.now sites targets.now
-        out.old out.new result }
-{
-    // no heap: a table for the most operations, of which the first k are written
-    let mut moved = [NOTHING; MOST_OPERATIONS];
-    rotations::put_transformed(t, rotations, &mut moved);
-    let k = rotations.len();
-    targets::put_aligned(&moved[0..k], images, sites, targets, out)
-}
-
-// 11, past the other refusals: the list is written before an absent rotation is met, and cleared then.
-fn align(
-    t: Linear,
-    rotations: &[Rotation],
-    images: &[u8],
-    sites: usize,
+    operations: &Operations,
     targets: &[Rotation],
     out: &mut [u8],
 ) -> Verdict
-    requires { Known (length rotations.now) images.now sites (length targets.now) (length out.old) }
-    ensures { Settled t rotations.now images.now sites targets.now
+    requires { Known (length operations.now.rotations.now) operations.now.images.now operations.now.sites
+        (length targets.now) (length out.old) }
+    ensures { Aligned t operations.now.rotations.now operations.now.images.now operations.now.sites targets.now
         out.old out.new result }
 {
-    if transform_and_put(t, rotations, images, sites, targets, out) {
-        clear(out, targets.len() * sites);
-        return Verdict::Accepted;
-    }
-    clear(out, 0);
-    Verdict::Refused(refusal::TARGET_ROTATION)
+    // no heap: a table for the most operations, of which the first k are written
+    let mut moved = [Integers::ZERO; MOST_OPERATIONS];
+    rotations::put_transformed(t, operations.rotations, &mut moved);
+    let k = operations.rotations.len();
+    targets::put_aligned(&moved[..k], operations, targets, out)
+}
+
+// The answer at the front of the list, or the refusal: 11 is met while the list is written.
+fn align(t: Linear, operations: &Operations, targets: &[Rotation], out: &mut [u8]) -> Verdict
+    ensures { Written t operations.now.rotations.now operations.now.images.now operations.now.sites targets.now
+        out.old out.new result }
+{
+    verdicts::verdict(t, operations, targets, out.len())?;
+    transform_and_put(t, operations, targets, out)
 }
 
 // The permutation of each target, target by target.
 pub fn align_permutations(
     t: Linear,
-    rotations: &[Rotation],
-    images: &[u8],
-    sites: usize,
+    operations: &Operations,
     targets: &[Rotation],
     out: &mut [u8],
 ) -> Verdict
-    ensures { AlignPromise t rotations.now images.now sites targets.now
+    ensures { AlignPromise t operations.now.rotations.now operations.now.images.now operations.now.sites targets.now
         out.old out.new result }
 {
-    let v = verdicts::verdict(t, rotations, images, sites, targets, out.len());
-    match v {
-        Verdict::Accepted => {
-            return align(t, rotations, images, sites, targets, out);
-        }
-        Verdict::Refused(_) => {
-            clear(out, 0);
-        }
+    let aligned = align(t, operations, targets, out);
+    match aligned {
+        Ok(()) => clear(out, targets.len() * operations.sites),
+        Err(_) => clear(out, 0),
     }
-    v
+    aligned
 }

@@ -2,29 +2,29 @@
 ghost use Rattle.std.specs.Prelude.{◌*◌, ◌≤◌, ◌≡◌, length};
 ghost use Rattle.symmetrize_align.specs.Aligning.{Put};
 
+use crate::Operations;
 use crate::rotations::last_place;
-use definitions::{Integers, Rotation};
+use definitions::{Integers, Refusal, Rotation, Verdict};
 
-// Whether the rotation of every target was found: at one that was not it stops.
+// Refused at the first target whose rotation is not found: those before it are written.
 pub(crate) fn put_aligned(
     moved: &[Integers],
-    images: &[u8],
-    n: usize,
+    operations: &Operations,
     targets: &[Rotation],
     out: &mut [u8],
-) -> bool
-    requires { (length images.now ≡ length moved.now * n) × (length targets.now * n ≤ length out.old) }
-    ensures { Put moved.now images.now n targets.now
+) -> Verdict
+    requires { (length operations.now.images.now ≡ length moved.now * operations.now.sites)
+        × (length targets.now * operations.now.sites ≤ length out.old) }
+    ensures { Put moved.now operations.now.images.now operations.now.sites targets.now
         out.old out.new result }
 {
+    let n = operations.sites;
     for (i, target) in targets.iter().enumerate() {
-        let Some(k) = last_place(moved, *target) else {
-            return false;
-        };
+        let k = last_place(moved, *target).ok_or(Refusal::TargetRotation)?;
         let from = k * n;
-        let part = &images[from..from + n];
+        let part = &operations.images[from..from + n];
         let at = i * n;
         out[at..at + n].copy_from_slice(part);
     }
-    true
+    Ok(())
 }

@@ -6,23 +6,24 @@ ghost use Rattle.definitions.specs.Lent.{bad_permutation_counts};
 ghost use Rattle.definitions.specs.Limits.{in_range, not_some};
 ghost use Rattle.symmetrize_align.specs.Aligning.{Given};
 
+use crate::Operations;
 use base_permutation::all_permutations;
 use checks::{all_in_range, in_range, is_some_count, unimodular};
 use definitions::limits::MOST_SITES;
-use definitions::{Linear, Rotation, Verdict, refusal};
+use definitions::{Linear, Refusal, Rotation, Verdict};
 
 // 2: the product is small by the time that it is made.
-fn bad_counts(sites: usize, rotations: &[Rotation], images: &[u8], targets: &[Rotation]) -> bool
-    ensures { result ≡ (bad_permutation_counts sites (length rotations.now) images.now
-        || not_some (length targets.now)) }
+fn bad_counts(operations: &Operations, targets: &[Rotation]) -> bool
+    ensures { result ≡ (bad_permutation_counts operations.now.sites (length operations.now.rotations.now)
+        operations.now.images.now || not_some (length targets.now)) }
 {
-    if MOST_SITES < sites {
+    if MOST_SITES < operations.sites {
         return true;
     }
-    if !is_some_count(rotations.len()) {
+    if !is_some_count(operations.rotations.len()) {
         return true;
     }
-    if images.len() != rotations.len() * sites {
+    if operations.images.len() != operations.rotations.len() * operations.sites {
         return true;
     }
     !is_some_count(targets.len())
@@ -45,30 +46,33 @@ fn bad_entries(t: Linear, rotations: &[Rotation], targets: &[Rotation]) -> bool
 // 2, 3, 5, 7, 10
 pub(crate) fn verdict(
     t: Linear,
-    rotations: &[Rotation],
-    images: &[u8],
-    sites: usize,
+    operations: &Operations,
     targets: &[Rotation],
     room: usize,
 ) -> Verdict
     ensures { Given
-        (align_conditions t rotations.now images.now sites targets.now room) result }
+        (align_conditions t operations.now.rotations.now operations.now.images.now operations.now.sites
+        targets.now room) result }
 {
-    if bad_counts(sites, rotations, images, targets) {
-        return Verdict::Refused(refusal::COUNTS);
+    if bad_counts(operations, targets) {
+        return Err(Refusal::Counts);
     }
-    if bad_entries(t, rotations, targets) {
-        return Verdict::Refused(refusal::MATRIX_ENTRY);
+    if bad_entries(t, operations.rotations, targets) {
+        return Err(Refusal::MatrixEntry);
     }
-    if !all_permutations(images, sites, rotations.len()) {
-        return Verdict::Refused(refusal::SITE_IMAGE);
+    if !all_permutations(
+        operations.images,
+        operations.sites,
+        operations.rotations.len(),
+    ) {
+        return Err(Refusal::SiteImage);
     }
     if !unimodular(t) {
-        return Verdict::Refused(refusal::DETERMINANT);
+        return Err(Refusal::Determinant);
     }
-    let answer = targets.len() * sites;
+    let answer = targets.len() * operations.sites;
     if room < answer {
-        return Verdict::Refused(refusal::BUFFER);
+        return Err(Refusal::Buffer);
     }
-    Verdict::Accepted
+    Ok(())
 }

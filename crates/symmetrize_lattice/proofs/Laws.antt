@@ -1,5 +1,4 @@
 -- The cases of a factor, and each verdict by the tests before it.
-use Prim.Native.Nat.{ℕ}
 use mathlib.Core.Path.{◌≡◌, refl, sym, ap, ◌∙◌}
 use mathlib.Core.Bool.{Bool, true, false, not, cond, ◌&&◌, ◌||◌}
 use mathlib.Core.List.{List}
@@ -7,7 +6,8 @@ use mathlib.Core.Option as Math
 use lib.ListN.{length}
 use lib.Ieee.{eq}
 use Rattle.laws.specs.Tests.{without}
-use Rattle.definitions.specs.declared.Verdict.TheVariants.{Accepted, Refused}
+use Rattle.definitions.specs.declared.Refusal.{Refusal}
+use Rattle.definitions.specs.declared.Refusal.TheVariants.{Counts, MatrixEntry, FloatRange, Determinant, Lattice}
 use Rattle.definitions.specs.Lists.{all}
 use Rattle.definitions.specs.Refusal.{Checked}
 use Rattle.laws.specs.Verdicts.{untested, is_true, is_false, TestedAll, verdict_of, checked}
@@ -78,43 +78,43 @@ module _ (l : RealMatrix) (t c : Matrix) (rs : List Matrix) where
   abbrev pub fails : Bool
   fails = lattice_fails (conventional_basis l t c) rs
 
-  pub refused_2 : bad_count ≡ true → Checked (lattice_conditions l t c rs) (Refused 2)
+  pub refused_2 : bad_count ≡ true → Checked (lattice_conditions l t c rs) (Err Counts)
   unfolding verdict_of TestedAll
-  refused_2 a = checked (lattice_conditions l t c rs) (is_true a, (untested, (untested, (untested, (untested, tt))))) (Refused 2) refl
+  refused_2 a = checked (lattice_conditions l t c rs) (is_true a, (untested, (untested, (untested, (untested, tt))))) (Err Counts) refl
 
   module _ (a : bad_count ≡ false) where
-    pub refused_3 : bad_entries ≡ true → Checked (lattice_conditions l t c rs) (Refused 3)
+    pub refused_3 : bad_entries ≡ true → Checked (lattice_conditions l t c rs) (Err MatrixEntry)
     unfolding verdict_of TestedAll
-    refused_3 b = checked (lattice_conditions l t c rs) (is_false a, (is_true b, (untested, (untested, (untested, tt))))) (Refused 3) refl
+    refused_3 b = checked (lattice_conditions l t c rs) (is_false a, (is_true b, (untested, (untested, (untested, tt))))) (Err MatrixEntry) refl
 
     module _ (b : bad_entries ≡ false) where
-      pub refused_4 : bad_floats ≡ true → Checked (lattice_conditions l t c rs) (Refused 4)
+      pub refused_4 : bad_floats ≡ true → Checked (lattice_conditions l t c rs) (Err FloatRange)
       unfolding verdict_of TestedAll
-      refused_4 d = checked (lattice_conditions l t c rs) (is_false a, (is_false b, (is_true d, (untested, (untested, tt))))) (Refused 4) refl
+      refused_4 d = checked (lattice_conditions l t c rs) (is_false a, (is_false b, (is_true d, (untested, (untested, tt))))) (Err FloatRange) refl
 
       module _ (d : bad_floats ≡ false) where
-        pub refused_7 : bad_determinants ≡ true → Checked (lattice_conditions l t c rs) (Refused 7)
+        pub refused_7 : bad_determinants ≡ true → Checked (lattice_conditions l t c rs) (Err Determinant)
         unfolding verdict_of TestedAll
-        refused_7 e = checked (lattice_conditions l t c rs) (is_false a, (is_false b, (is_false d, (is_true e, (untested, tt))))) (Refused 7) refl
+        refused_7 e = checked (lattice_conditions l t c rs) (is_false a, (is_false b, (is_false d, (is_true e, (untested, tt))))) (Err Determinant) refl
 
         module _ (e : bad_determinants ≡ false) where
-          pub refused_12 : fails ≡ true → Checked (lattice_conditions l t c rs) (Refused 12)
+          pub refused_12 : fails ≡ true → Checked (lattice_conditions l t c rs) (Err Lattice)
           unfolding verdict_of TestedAll
-          refused_12 f = checked (lattice_conditions l t c rs) (is_false a, (is_false b, (is_false d, (is_false e, (is_true f, tt))))) (Refused 12) refl
+          refused_12 f = checked (lattice_conditions l t c rs) (is_false a, (is_false b, (is_false d, (is_false e, (is_true f, tt))))) (Err Lattice) refl
 
-          pub accepted : fails ≡ false → Checked (lattice_conditions l t c rs) Accepted
+          pub accepted : fails ≡ false → Checked (lattice_conditions l t c rs) (Ok tt)
           unfolding verdict_of TestedAll
-          accepted f = checked (lattice_conditions l t c rs) (is_false a, (is_false b, (is_false d, (is_false e, (is_false f, tt))))) Accepted refl
+          accepted f = checked (lattice_conditions l t c rs) (is_false a, (is_false b, (is_false d, (is_false e, (is_false f, tt))))) (Ok tt) refl
 
           -- the last test: refused with 12, or the new basis
-          pub by_last : (r : Result RealMatrix ℕ) → r ≡ ok_or (symmetrized (conventional_basis l t c) rs) 12 →
-              IfOk r (λ m. Checked (lattice_conditions l t c rs) Accepted × (m ≡ new_of l t c rs)) × IfErr r (λ k. Checked (lattice_conditions l t c rs) (Refused k))
+          pub by_last : (r : Result RealMatrix Refusal) → r ≡ ok_or (symmetrized (conventional_basis l t c) rs) Lattice →
+              IfOk r (λ m. Checked (lattice_conditions l t c rs) (Ok tt) × (m ≡ new_of l t c rs)) × IfErr r (λ k. Checked (lattice_conditions l t c rs) (Err k))
           by_last r h = at fails refl
             where
-              at : (f : Bool) → fails ≡ f → IfOk r (λ m. Checked (lattice_conditions l t c rs) Accepted × (m ≡ new_of l t c rs)) × IfErr r (λ k. Checked (lattice_conditions l t c rs) (Refused k))
+              at : (f : Bool) → fails ≡ f → IfOk r (λ m. Checked (lattice_conditions l t c rs) (Ok tt) × (m ≡ new_of l t c rs)) × IfErr r (λ k. Checked (lattice_conditions l t c rs) (Err k))
               at true e =
-                  let k : r ≡ Err 12 = h ∙ ap (λ (f : Bool). ok_or (cond f None (Some (new_of l t c rs))) 12) e in
+                  let k : r ≡ Err Lattice = h ∙ ap (λ (f : Bool). ok_or (cond f None (Some (new_of l t c rs))) Lattice) e in
                   rw k (tt, refused_12 e)
               at false e =
-                  let k : r ≡ Ok (new_of l t c rs) = h ∙ ap (λ (f : Bool). ok_or (cond f None (Some (new_of l t c rs))) 12) e in
+                  let k : r ≡ Ok (new_of l t c rs) = h ∙ ap (λ (f : Bool). ok_or (cond f None (Some (new_of l t c rs))) Lattice) e in
                   rw k ((accepted e, refl), tt)

@@ -13,11 +13,26 @@ ghost use Rattle.definitions.specs.Limits.{in_range, not_unimodular, bad_copies}
 ghost use Rattle.symmetrize_lattice.specs.Lattice.{turned, total_metric, deforms, symmetrized};
 
 use checks::{all_in_range, good_copies, in_range, is_some_count, lattice_within, unimodular};
-use definitions::{Basis, Linear, Rotation, Verdict, refusal};
+use definitions::{Basis, Linear, Refusal, Rotation, Verdict};
 use math_factor::cholesky;
 use math_real::{inverse, matrix, whole};
 
+// The bases of one lattice: of the conventional cell, of the primitive cell, and of the cell that is listed.
+#[derive(Clone, Copy)]
+pub struct Bases {
+    pub conventional: Basis,
+    pub primitive: Basis,
+    pub listed: Basis,
+}
+
 const ZEROS: Basis = [[0.0; 3]; 3];
+
+// after a refusal
+pub const NO_BASES: Bases = Bases {
+    conventional: ZEROS,
+    primitive: ZEROS,
+    listed: ZEROS,
+};
 
 // the basis of columns l times T, then C
 fn conventional_basis(l: Basis, t: Linear, c: Linear) -> Basis
@@ -106,55 +121,54 @@ fn good_determinants(t: Linear, c: Linear) -> bool
     unimodular(t) & good_copies(c)
 }
 
-// the new conventional basis, or the number that refuses it
-fn new_lattice(l: Basis, t: Linear, c: Linear, rotations: &[Rotation]) -> Result<Basis, usize>
+// the new conventional basis, or the refusal
+fn new_lattice(l: Basis, t: Linear, c: Linear, rotations: &[Rotation]) -> Result<Basis, Refusal>
     ensures accepted { IfOk result (λ m.
-        Checked (lattice_conditions l t c rotations.now) Verdict.Accepted × (m ≡ new_of l t c rotations.now)) }
-    ensures refused { IfErr result (λ k. Checked (lattice_conditions l t c rotations.now) (Verdict.Refused k)) }
+        Checked (lattice_conditions l t c rotations.now) (Ok tt) × (m ≡ new_of l t c rotations.now)) }
+    ensures refused { IfErr result (λ r. Checked (lattice_conditions l t c rotations.now) (Err r)) }
 {
     if !is_some_count(rotations.len()) {
-        return Err(refusal::COUNTS);
+        return Err(Refusal::Counts);
     }
     if !entries_in_range(t, c, rotations) {
-        return Err(refusal::MATRIX_ENTRY);
+        return Err(Refusal::MatrixEntry);
     }
     if !lattice_within(l) {
-        return Err(refusal::FLOAT_RANGE);
+        return Err(Refusal::FloatRange);
     }
     if !good_determinants(t, c) {
-        return Err(refusal::DETERMINANT);
+        return Err(Refusal::Determinant);
     }
     let old = conventional_basis(l, t, c);
-    symmetrized(old, rotations).ok_or(refusal::LATTICE)
+    symmetrized(old, rotations).ok_or(Refusal::Lattice)
 }
 
-// `new` becomes the conventional basis, `primitive` it times C⁻¹ and `listed` that times C; all zero after a refusal.
+// The conventional basis is the new one, the primitive it times C⁻¹ and the listed that times C; all are zero after
+// a refusal.
 pub fn symmetrize_lattice(
     l: Basis,
     t: Linear,
     c: Linear,
     rotations: &[Rotation],
-    new: &mut Basis,
-    primitive: &mut Basis,
-    listed: &mut Basis,
+    bases: &mut Bases,
 ) -> Verdict
     ensures { LatticePromise l t c rotations.now
-        new.new primitive.new listed.new result }
+        bases.new.conventional bases.new.primitive bases.new.listed result }
 {
     match new_lattice(l, t, c, rotations) {
-        Ok(basis) => {
-            let p = matrix::product(basis, whole::inverse_of_c(c));
-            let q = matrix::product(p, whole::real(c));
-            *new = basis;
-            *primitive = p;
-            *listed = q;
-            Verdict::Accepted
+        Ok(conventional) => {
+            let primitive = matrix::product(conventional, whole::inverse_of_c(c));
+            let listed = matrix::product(primitive, whole::real(c));
+            *bases = Bases {
+                conventional,
+                primitive,
+                listed,
+            };
+            Ok(())
         }
-        Err(number) => {
-            *new = ZEROS;
-            *primitive = ZEROS;
-            *listed = ZEROS;
-            Verdict::Refused(number)
+        Err(refusal) => {
+            *bases = NO_BASES;
+            Err(refusal)
         }
     }
 }

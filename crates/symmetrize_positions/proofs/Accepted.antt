@@ -5,7 +5,7 @@ use lib.ListN.{length}
 use lib.Ieee.{Float}
 use borrow.Author.Tests.{ltb-false}
 use Rattle.definitions.specs.declared.Position.{Position}
-use Rattle.definitions.specs.declared.Verdict.TheVariants.{Accepted}
+use Rattle.std.specs.Prelude.{Ok}
 use Rattle.definitions.specs.Matrix.{Matrix}
 use Rattle.definitions.specs.Refusal.{Checked}
 use Rattle.definitions.specs.Calls.{symmetrize_conditions}
@@ -20,7 +20,7 @@ module _ (ps : List (List Float)) (gs : List Matrix) (vs : List (List Float)) (i
   abbrev Known : Type 0
   Known = Counted (length ps) (length gs) (length vs) (length images) × Permuted (length ps) (length gs) images × (length ps ≤ room)
 
-  pub transform_facts : (t : Matrix) (shift : Position) → Checked (symmetrize_conditions t shift ps gs vs images room) Accepted → Known
+  pub transform_facts : (t : Matrix) (shift : Position) → Checked (symmetrize_conditions t shift ps gs vs images room) (Ok tt) → Known
   unfolding numbered FailAll
   transform_facts t shift e =
       let fails = past (symmetrize_conditions t shift ps gs vs images room) tt e in

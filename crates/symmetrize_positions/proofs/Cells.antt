@@ -3,7 +3,7 @@ use Prim.Native.Nat.{ℕ, zero, suc, ◌-◌, ◌≤◌, ◌<◌}
 use mathlib.Core.Path.{◌≡◌, refl, sym, ap, ◌∙◌}
 use mathlib.Core.List.{List, [], map}
 use native.Mathlib.Omega.{arith}
-use lib.ListN.{length, get_or, take, drop, replicate, length-map, get_or-replicate, take-append-drop}
+use lib.ListN.{length, get_or, take, drop, replicate, length-map, take-append-drop}
 use lib.Seq.{get_or-take, length-take-le, ext_get_or}
 use lib.Ieee.{Float}
 use Rattle.definitions.specs.declared.Position.{Position}
@@ -37,9 +37,6 @@ drop-replicate : {A : Type 0} (n m : ℕ) (z : A) → drop n (replicate m z) ≡
 drop-replicate zero m z = let e : m - 0 ≡ m = omega arith in rw e
 drop-replicate (suc n) zero z = let e : 0 - suc n ≡ 0 = omega arith in rw e
 drop-replicate (suc n) (suc m) z = let e : suc m - suc n ≡ m - n = omega arith in rw e (drop-replicate n m z)
-
-pub zero_at : (d l : List (List Float)) (i : ℕ) → l ≡ cut zero_cells 0 d → i < length d → get_or l i [] ≡ zero_cells
-zero_at d l i e h = ap (λ m. get_or m i []) e ∙ get_or-replicate (length d - 0) i zero_cells [] (omega arith)
 
 module _ (ps : List (List Float)) (gs : List Matrix) (vs : List (List Float)) (images : List ℕ) (counts : length vs ≡ length gs) where
   abbrev cells : List (List Float)

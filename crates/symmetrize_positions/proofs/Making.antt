@@ -4,7 +4,6 @@ use mathlib.Core.Path.{◌≡◌, refl, sym, ap, ◌∙◌}
 use mathlib.Core.Bool.{Bool, true, false}
 use mathlib.Core.List.{List, []}
 use native.Mathlib.Omega.{arith}
-use native.Mathlib.Nat.{not-suc-le-zero}
 use lib.Dec.{eqb}
 use lib.ListN.{length, get_or, set, drop}
 use lib.Seq.{get_or-set_same, get_or-set_other, drop-set-lt}
@@ -32,9 +31,6 @@ permuted n p t =
 module _ (n : ℕ) (turn : ℕ → ℕ) (f : ℕ → List Float → List Float) (d : List (List Float)) where
   abbrev pub MadeTo : ℕ → List (List Float) → Type 0
   MadeTo j l = (drop n l ≡ drop n d) × ((a : ℕ) → a < n → (turn a < j → get_or l a [] ≡ f a (get_or d a [])) × (j ≤ turn a → get_or l a [] ≡ get_or d a []))
-
-  pub make_start : MadeTo 0 d
-  make_start = (refl, λ a k. (λ h. absurd (not-suc-le-zero h), λ h. refl))
 
 module _ (n : ℕ) (place turn : ℕ → ℕ) (o : Turns n place turn) (f : ℕ → List Float → List Float) (d : List (List Float)) where
   pub make_step : (l : List (List Float)) (j i : ℕ) (x : List Float) → n ≤ length l → j < n → i ≡ place j → x ≡ f i (get_or l i []) → MadeTo n turn f d j l → MadeTo n turn f d (j + 1) (set l i x)

@@ -1,8 +1,6 @@
 -- The transformed positions, held as cells.
-use Prim.Native.Nat.{◌-◌}
 use mathlib.Core.Path.{◌≡◌, refl, ap, ◌∙◌}
 use mathlib.Core.List.{List, [], ◌∷◌, ◌++◌, map}
-use native.Mathlib.Omega.{arith}
 use lib.ListN.{length, take, length-map}
 use lib.Seq.{take_at}
 use lib.Ieee.{Float}
@@ -18,13 +16,8 @@ back m shift [] = refl
 back m shift (v ∷ ps) = ap (λ l. apply_f m (sub_p (position_from v) shift) ∷ l) (back m shift ps)
 
 module _ (t : Matrix) (shift : Position) (ps : List (List Float)) (m : RealMatrix) (held d : List (List Float)) (h : held ≡ moved m shift ps ++ d) where
-  front : take (length ps - 0) held ≡ moved m shift ps
-  front =
-      let e : length ps - 0 ≡ length ps = omega arith in
-      rw (h, e) (take_at (moved m shift ps) d (length ps) (length-map ps (moved_cells m shift)))
+  front : take (length ps) held ≡ moved m shift ps
+  front = rw h (take_at (moved m shift ps) d (length ps) (length-map ps (moved_cells m shift)))
 
-  pub length_front : length (take (length ps - 0) held) ≡ length ps
-  length_front = ap length front ∙ length-map ps (moved_cells m shift)
-
-  pub front_is : m ≡ real (inverse t) → map position_from (take (length ps - 0) held) ≡ transformed_cells t shift ps
+  pub front_is : m ≡ real (inverse t) → map position_from (take (length ps) held) ≡ transformed_cells t shift ps
   front_is e = ap (map position_from) front ∙ back m shift ps ∙ rw e

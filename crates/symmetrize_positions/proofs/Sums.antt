@@ -4,9 +4,9 @@ use mathlib.Core.Path.{◌≡◌, refl, sym, ap, ◌∙◌}
 use mathlib.Core.Bool.{true}
 use mathlib.Core.List.{List, [], ◌∷◌, map, foldl}
 use native.Mathlib.Omega.{arith}
-use native.Mathlib.Nat.{not-suc-le-zero, le_of_suc-le-suc, mul-le-mul_right, suc-mul, zero-add}
+use native.Mathlib.Nat.{not-suc-le-zero, le_of_suc-le-suc, zero-add}
 use native.Mathlib.Numerals.{add-one}
-use lib.ListN.{length, get_or, take, drop, length-map, length-take, length-drop}
+use lib.ListN.{length, get_or, take, drop, length-map}
 use lib.Seq.{take_all}
 use lib.IntN.{pos}
 use lib.Ieee.{Float, binary64, div}
@@ -53,20 +53,6 @@ module _ (ps : List Position) (i n : ℕ) (images : List ℕ) where
   at_by (g ∷ gs) (v ∷ vs) a (suc k) e h =
       let z : a + suc k ≡ suc a + k = omega arith in
       rw z (at_by gs vs (suc a) k (omega arith) (le_of_suc-le-suc h))
-
--- the k-th of m parts, n entries each, ends within the whole
-pub room : (k m n t : ℕ) → k < m → t ≡ m * n → k * n + n ≤ t
-room k m n t h e = rw (e, ← suc-mul k n) (mul-le-mul_right n h)
-
--- the part from `at` on is the permutation k
-pub part_permutes : (images : List ℕ) (n k at : ℕ) → at ≡ k * n → at + n ≤ length images → is_permutation n (permutation_at n images k) ≡ true
-    → (length (take (at + n - at) (drop at images)) ≡ n) × (is_permutation n (take (at + n - at) (drop at images)) ≡ true)
-part_permutes images n k at e h t =
-    let w : at + n - at ≡ n = omega arith in
-    (simp (length-take, length-drop) (omega arith), rw (w, e) t)
-
-pub next_part : (k at n : ℕ) → at ≡ k * n → at + n ≡ (k + 1) * n
-next_part k at n e = rw (e, add-one) (sym (suc-mul k n))
 
 module _ (ps : List (List Float)) (gs : List Matrix) (vs : List (List Float)) (images : List ℕ) (i : ℕ) where
   abbrev pub all : List Position

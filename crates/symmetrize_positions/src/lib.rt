@@ -15,7 +15,15 @@ ghost use Rattle.definitions.specs.Lent.{zero_cells};
 use crate::targets::Targets;
 use definitions::limits::MOST_SITES;
 use definitions::{Cells, Linear, Position, Rotation, Verdict};
-use lent::clear;
+use lent::{Zero, clear};
+
+// The targets that a caller gives: a rotation and a translation each, and the images of all sites under it.
+#[derive(Clone, Copy)]
+pub struct GivenTargets<'a> {
+    pub rotations: &'a [Rotation],
+    pub translations: &'a [Cells],
+    pub images: &'a [u8],
+}
 
 // The transformed positions, and the answer of them.
 fn transform_and_fill(
@@ -33,10 +41,10 @@ fn transform_and_fill(
         (length out.old) }
 {
     // no heap: a table for the most sites, of which the first n are written
-    let mut held = [[0.0; 3]; MOST_SITES];
+    let mut held = [Cells::ZERO; MOST_SITES];
     transform::put_transformed(transform::real_inverse(t), shift, positions, &mut held);
     let n = positions.len();
-    targets::fill(&held[0..n], targets, out);
+    targets::fill(&held[..n], targets, out);
 }
 
 // Given positions, made T⁻¹(p - shift) and symmetrised.
@@ -44,29 +52,26 @@ pub fn symmetrize_positions(
     t: Linear,
     shift: Position,
     positions: &[Cells],
-    rotations: &[Rotation],
-    translations: &[Cells],
-    images: &[u8],
+    targets: &GivenTargets,
     out: &mut [Cells],
 ) -> Verdict
-    ensures { PositionsPromise t shift positions.now rotations.now translations.now
-        images.now out.old out.new result }
+    ensures { PositionsPromise t shift positions.now targets.now.rotations.now targets.now.translations.now
+        targets.now.images.now out.old out.new result }
 {
-    let room = out.len();
-    let v = verdicts::verdict(t, shift, positions, rotations, translations, images, room);
-    match v {
-        Verdict::Accepted => {
-            let targets = Targets {
+    match verdicts::verdict(t, shift, positions, targets, out.len()) {
+        Ok(()) => {
+            let known = Targets {
                 sites: positions.len(),
-                rotations,
-                translations,
-                images,
+                rotations: targets.rotations,
+                translations: targets.translations,
+                images: targets.images,
             };
-            transform_and_fill(t, shift, positions, &targets, out);
+            transform_and_fill(t, shift, positions, &known, out);
+            Ok(())
         }
-        Verdict::Refused(_) => {
+        Err(refusal) => {
             clear(out, 0);
+            Err(refusal)
         }
     }
-    v
 }

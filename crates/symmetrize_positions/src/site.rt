@@ -50,21 +50,21 @@ pub(crate) fn position_at(s: &[Cells], i: usize) -> Position
     requires { i < length s.now }
     ensures { result ≡ position_from (get_or s.now i []) }
 {
-    position::position_of(s[i])
+    Position::from(s[i])
 }
 
 // a sum with d added
 pub(crate) fn grown(sum: Cells, d: Position) -> Cells
     ensures { result ≡ cells_of (add_p (position_from sum) d) }
 {
-    position::cells_of(position::add(position::position_of(sum), d))
+    Cells::from(position::add(Position::from(sum), d))
 }
 
 // p with the mean added, of which the sum is given
 pub(crate) fn with_mean(p: Position, sum: Cells, by: f64) -> Cells
     ensures { result ≡ cells_of (add_p p (map_p (λ s. div binary64 s by) (position_from sum))) }
 {
-    position::cells_of(position::add(p, position::divide(position::position_of(sum), by)))
+    Cells::from(position::add(p, position::divide(Position::from(sum), by)))
 }
 
 pub(crate) fn count_of(n: usize) -> f64

@@ -72,7 +72,7 @@ fn put_means(positions: &[Cells], targets: usize, out: &mut [Cells])
 {
     let by = site::count_of(targets);
     for (i, p) in positions.iter().enumerate() {
-        out[i] = site::with_mean(position::position_of(*p), out[i], by);
+        out[i] = site::with_mean(Position::from(*p), out[i], by);
     }
 }
 

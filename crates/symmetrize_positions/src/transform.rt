@@ -28,7 +28,7 @@ pub(crate) fn put_transformed(m: Basis, shift: Position, positions: &[Cells], he
         ≡ moved m shift positions.now ++ drop (length positions.now) held.old }
 {
     for (i, p) in positions.iter().enumerate() {
-        let moved = transformed(m, shift, position::position_of(*p));
-        held[i] = position::cells_of(moved);
+        let moved = transformed(m, shift, Position::from(*p));
+        held[i] = Cells::from(moved);
     }
 }

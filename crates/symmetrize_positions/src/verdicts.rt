@@ -7,26 +7,28 @@ ghost use Rattle.definitions.specs.Calls.{symmetrize_conditions};
 ghost use Rattle.definitions.specs.Lent.{cells_within};
 ghost use Rattle.definitions.specs.Limits.{in_range, position_within};
 
+use crate::GivenTargets;
 use base_permutation::all_permutations;
 use checks::{
     all_cells_within, all_in_range, in_range, is_some_count, position_within, unimodular,
 };
 use definitions::limits::MOST_SITES;
-use definitions::{Cells, Linear, Position, Rotation, Verdict, refusal};
+use definitions::{Cells, Linear, Position, Refusal, Rotation, Verdict};
 
-fn bad_counts(n: usize, rotations: &[Rotation], translations: &[Cells], images: &[u8]) -> bool
-    ensures { result ≡ bad_target_counts n rotations.now translations.now images.now }
+fn bad_counts(n: usize, targets: &GivenTargets) -> bool
+    ensures { result
+        ≡ bad_target_counts n targets.now.rotations.now targets.now.translations.now targets.now.images.now }
 {
     if MOST_SITES < n {
         return true;
     }
-    if !is_some_count(rotations.len()) {
+    if !is_some_count(targets.rotations.len()) {
         return true;
     }
-    if translations.len() != rotations.len() {
+    if targets.translations.len() != targets.rotations.len() {
         return true;
     }
-    images.len() != rotations.len() * n
+    targets.images.len() != targets.rotations.len() * n
 }
 
 // all of T's and the rotations' entries
@@ -58,33 +60,31 @@ pub(crate) fn verdict(
     t: Linear,
     shift: Position,
     positions: &[Cells],
-    rotations: &[Rotation],
-    translations: &[Cells],
-    images: &[u8],
+    targets: &GivenTargets,
     room: usize,
 ) -> Verdict
     ensures { Checked
-        (symmetrize_conditions t shift positions.now rotations.now translations.now
-        images.now room)
+        (symmetrize_conditions t shift positions.now targets.now.rotations.now targets.now.translations.now
+        targets.now.images.now room)
         result }
 {
-    if bad_counts(positions.len(), rotations, translations, images) {
-        return Verdict::Refused(refusal::COUNTS);
+    if bad_counts(positions.len(), targets) {
+        return Err(Refusal::Counts);
     }
-    if bad_entries(t, rotations) {
-        return Verdict::Refused(refusal::MATRIX_ENTRY);
+    if bad_entries(t, targets.rotations) {
+        return Err(Refusal::MatrixEntry);
     }
-    if bad_floats(shift, positions, translations) {
-        return Verdict::Refused(refusal::FLOAT_RANGE);
+    if bad_floats(shift, positions, targets.translations) {
+        return Err(Refusal::FloatRange);
     }
-    if !all_permutations(images, positions.len(), rotations.len()) {
-        return Verdict::Refused(refusal::SITE_IMAGE);
+    if !all_permutations(targets.images, positions.len(), targets.rotations.len()) {
+        return Err(Refusal::SiteImage);
     }
     if !unimodular(t) {
-        return Verdict::Refused(refusal::DETERMINANT);
+        return Err(Refusal::Determinant);
     }
     if room < positions.len() {
-        return Verdict::Refused(refusal::BUFFER);
+        return Err(Refusal::Buffer);
     }
-    Verdict::Accepted
+    Ok(())
 }

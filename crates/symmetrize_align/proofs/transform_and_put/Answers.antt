@@ -5,6 +5,7 @@ use Rattle.symmetrize_align.proofs.transform_and_put.Goals as goal
 pub returns : goal.returns
 returns c =
     let a = c.args in
-    aligned_by_lem a.t a.rotations.now _ a.images.now a.sites a.targets.now
-    (lent_is a.t a.rotations.now _ _ c.put_transformed.ensures)
-    c.put_aligned.ensures
+    let o = a.operations.now in
+    aligned_by_lem a.t o.rotations.now _ o.images.now o.sites a.targets.now
+    (lent_is a.t o.rotations.now _ _ c.put_transformed.ensures)
+    _ _ _ c.put_aligned.ensures

@@ -1,7 +1,7 @@
 -- The tests in the order of precedence, each on what those before it passed.
 use mathlib.Core.Path.{ap, ◌≡◌, ◌∙◌}
 use mathlib.Core.Bool.{false, not}
-use lib.ListN.{length}
+use Rattle.definitions.specs.declared.Refusal.TheVariants.{Lattice}
 use Rattle.definitions.specs.Lists.{all}
 use Rattle.definitions.specs.Real.{RealMatrix}
 use Rattle.definitions.specs.Limits.{within}
@@ -10,7 +10,6 @@ use Rattle.std.specs.Option.{ok_or}
 use Rattle.symmetrize_lattice.specs.Lattice.{symmetrized}
 use Rattle.symmetrize_lattice.proofs.Laws.{bad_count, bad_entries, bad_floats, bad_determinants, refused_2, refused_3, refused_4, refused_7, by_last}
 use Rattle.laws.specs.Tests.{not_not, branch_fails, branch_passes}
-use Rattle.laws.specs.Limits.{few}
 use Rattle.symmetrize_lattice.proofs.new_lattice.Goals as goal
 use Rattle.symmetrize_lattice.proofs.new_lattice.Goals.{After-lattice_within, Else-not-entries_in_range, Else-not-good_determinants, Else-not-is_some_count, Else-not-lattice_within, Start}
 
@@ -46,12 +45,9 @@ pub returns-then-not-good_determinants-clause-refused : goal.returns-then-not-go
 returns-then-not-good_determinants-clause-refused c = refused_7 c.args.l c.args.t c.args.c c.args.rotations.now (count_passed (goal.at.returns-then-not-good_determinants-clause-refused c).Else-not-is_some_count) (entries_passed (goal.at.returns-then-not-good_determinants-clause-refused c).Else-not-entries_in_range) (floats_passed (goal.at.returns-then-not-good_determinants-clause-refused c).Else-not-lattice_within)
     (branch_fails c.good_determinants.result (bad_determinants c.args.l c.args.t c.args.c c.args.rotations.now) c.good_determinants.ensures (ap not c.if-not-good_determinants.true))
 
-pub symmetrized-requires : goal.symmetrized-requires
-symmetrized-requires c = few (length c.args.rotations.now) (count_passed (goal.at.symmetrized-requires c).Else-not-is_some_count)
-
 pub returns : goal.returns
 returns c =
     let a = c.args in
-    let last = c.ok_or.ensures.value ∙ ap (λ (o : Option RealMatrix). ok_or o 12) (c.symmetrized.ensures ∙ ap (λ (m : RealMatrix). symmetrized m a.rotations.now) c.conventional_basis-old.ensures) in
+    let last = c.ok_or.ensures.value ∙ ap (λ (o : Option RealMatrix). ok_or o Lattice) (c.symmetrized.ensures ∙ ap (λ (m : RealMatrix). symmetrized m a.rotations.now) c.conventional_basis-old.ensures) in
     let told = by_last a.l a.t a.c a.rotations.now (count_passed (goal.at.returns c).Else-not-is_some_count) (entries_passed (goal.at.returns c).Else-not-entries_in_range) (floats_passed (goal.at.returns c).Else-not-lattice_within) (determinants_passed (goal.at.returns c).Else-not-good_determinants) c.ok_or.result last in
     record { accepted = told.0; refused = told.1 }

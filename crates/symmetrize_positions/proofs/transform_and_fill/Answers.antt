@@ -1,11 +1,6 @@
 -- `transform_and_fill`: the first n cells held are the transformed positions.
-use Rattle.symmetrize_positions.proofs.Moved.{length_front, front_is}
+use Rattle.symmetrize_positions.proofs.Moved.{front_is}
 use Rattle.symmetrize_positions.proofs.transform_and_fill.Goals as goal
-
-pub fill-requires : goal.fill-requires
-fill-requires c =
-    let front = length_front c.args.t c.args.shift c.args.positions.now c.real_inverse.result _ _ c.put_transformed.ensures in
-    rw front c.requires
 
 pub returns : goal.returns
 returns c =

@@ -1,6 +1,6 @@
 -- `last_place`: what is found among all is what is found among the places not yet tried.
 use Prim.Native.Nat.{suc, ◌-◌}
-use mathlib.Core.Path.{◌≡◌, refl, sym, ap, ◌∙◌}
+use mathlib.Core.Path.{◌≡◌, sym, ap, ◌∙◌}
 use mathlib.Core.List.{[]}
 use lib.ListN.{get_or}
 use native.Mathlib.Omega.{arith}
@@ -8,9 +8,6 @@ use Rattle.definitions.specs.Transformation.{same_matrix}
 use Rattle.symmetrize_align.specs.Aligning.{last_below, found}
 use Rattle.symmetrize_align.proofs.Search.{last_none, last_hit, last_miss}
 use Rattle.symmetrize_align.proofs.rotations.last_place.Goals as goal
-
-pub loop-i-init : goal.loop-i-init
-loop-i-init c = refl
 
 pub returns-then-same : goal.returns-then-same
 returns-then-same c =

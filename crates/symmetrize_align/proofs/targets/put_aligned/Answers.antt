@@ -1,7 +1,7 @@
 -- `put_aligned`: the permutations of the first i targets are written, and none of them was absent.
 use Prim.Native.Nat.{ℕ, ◌+◌, ◌-◌, ◌*◌, ◌≤◌}
 use mathlib.Core.Path.{◌≡◌, refl, sym, ap, ◌∙◌}
-use mathlib.Core.Bool.{Bool, not}
+use mathlib.Core.Bool.{Bool}
 use mathlib.Core.List.{[]}
 use mathlib.Core.Option.{some}
 use native.Mathlib.Omega.{arith}
@@ -10,76 +10,80 @@ use borrow.Rule.Slice.PartMut.{same_len_mid}
 use Rattle.definitions.specs.Matrix.{Matrix}
 use Rattle.definitions.specs.Transformation.{is_none}
 use Rattle.laws.specs.Lists.{part_room}
-use Rattle.laws.specs.Tests.{never}
-use Rattle.symmetrize_align.specs.Aligning.{last_of, aligned_by}
+use Rattle.laws.specs.Verdicts.{passed_on}
+use Rattle.symmetrize_align.specs.Aligning.{last_of, aligned_by, Put}
 use Rattle.symmetrize_align.proofs.Search.{found_at, found_below, absent}
 use Rattle.symmetrize_align.proofs.Fronts.{front_none, front_next, front_long, front_all}
 use Rattle.symmetrize_align.proofs.Fronts.{any_here, any_later, any-over, part_is, part_long}
 use Rattle.symmetrize_align.proofs.targets.put_aligned.Goals as goal
-use Rattle.symmetrize_align.proofs.targets.put_aligned.Goals.{At-loop-i, In-Some, Start}
+use Rattle.symmetrize_align.proofs.targets.put_aligned.Goals.{At-loop-i, In_ok-k, Start}
 
 pub loop-i-init : goal.loop-i-init
 loop-i-init c =
     let a = c.args in
-    let f = aligned_by a.moved.now a.images.now a.n in
-    (refl, front_none f a.targets.now [] a.out.now a.n, refl)
+    let images = a.operations.now.images.now in
+    let n = a.operations.now.sites in
+    let f = aligned_by a.moved.now images n in
+    (refl, front_none f a.targets.now [] a.out.now n, refl)
 
-pub returns-in_default : goal.returns-in_default
-returns-in_default c =
+pub returns-in_err-k : goal.returns-in_err-k
+returns-in_err-k c =
     let l = c.loop-i in
     let a = c.args in
-    let here = absent (last_of a.moved.now (get_or a.targets.now l.i [])) c.in_default.ensures in
+    let images = a.operations.now.images.now in
+    let n = a.operations.now.sites in
     let lost : Matrix → Bool = λ g. is_none (last_of a.moved.now g) in
-    record {
-      none_absent = ap not (sym (sym l.invariant.2 ∙ any_here lost [] a.targets.now l.i (omega arith) here));
-      long = λ e. absurd (never e);
-      front = λ e. absurd (never e);
-    }
+    let here = absent (last_of a.moved.now (get_or a.targets.now l.i [])) _ _ _ c.in_err-k.ensures.value c.last_place.ensures in
+    passed_on (Put a.moved.now images n a.targets.now a.out.now l.out) _ _ c.from_residual.ensures.1
+    (here.0, sym l.invariant.2 ∙ any_here lost [] a.targets.now l.i (omega arith) here.1)
 
 -- ---- the place k that was found
 
-module _ (c : In-Some) where
+module _ (c : In_ok-k) where
   abbrev start : Start
-  start = (goal.at.In-Some c).Start
+  start = (goal.at.In_ok-k c).Start
 
   abbrev turn : At-loop-i
-  turn = (goal.at.In-Some c).At-loop-i
+  turn = (goal.at.In_ok-k c).At-loop-i
 
   abbrev k : ℕ
-  k = c.in-Some.k
+  k = c.in_ok-k.k
 
   place : last_of start.args.moved.now (get_or start.args.targets.now turn.loop-i.i []) ≡ some k
-  place = found_at start.args.moved.now (get_or start.args.targets.now turn.loop-i.i []) k c.in-Some.ensures
+  place = found_at start.args.moved.now (get_or start.args.targets.now turn.loop-i.i []) k _ _ c.in_ok-k.ensures.value c.last_place.ensures
 
   -- its permutation is within the list of them, and the target's part within the answer
-  from_fits : k * start.args.n + start.args.n ≤ length start.args.images.now
+  from_fits : let o = start.args.operations.now in k * o.sites + o.sites ≤ length o.images.now
   from_fits =
       let a = start.args in
+      let o = a.operations.now in
       let h = found_below a.moved.now (get_or a.targets.now turn.loop-i.i []) k place in
-      part_room k (length a.moved.now) a.n (length a.images.now) h start.requires.0
+      part_room k (length a.moved.now) o.sites (length o.images.now) h start.requires.0
 
 pub overflow_mul-from : goal.overflow_mul-from
 overflow_mul-from c = omega (arith, from_fits c)
 
 pub overflow_add-part : goal.overflow_add-part
-overflow_add-part c = omega (arith, from_fits c)
+overflow_add-part c = omega (arith, from_fits (goal.at.overflow_add-part c).In_ok-k)
 
 pub slice_bounds-part-end : goal.slice_bounds-part-end
-slice_bounds-part-end c = omega (arith, from_fits c)
+slice_bounds-part-end c = omega (arith, from_fits (goal.at.slice_bounds-part-end c).In_ok-k)
 
 pub loop-i-preserved : goal.loop-i-preserved
 loop-i-preserved c =
-    let s = (goal.at.loop-i-preserved c).In-Some in
+    let s = (goal.at.loop-i-preserved c).In_ok-k in
     let a = c.args in
+    let images = a.operations.now.images.now in
+    let n = a.operations.now.sites in
     let l = c.loop-i in
-    let f = aligned_by a.moved.now a.images.now a.n in
-    let from = k s * a.n in
+    let f = aligned_by a.moved.now images n in
+    let from = k s * n in
     let after = c.copy_from_slice.ensures.after in
     let lost : Matrix → Bool = λ g. is_none (last_of a.moved.now g) in (
-      same_len_mid (l.i * a.n) (l.i * a.n + a.n - l.i * a.n) l.out c.copy_from_slice.new.self c.copy_from_slice.auto.self ∙ l.invariant.0,
+      same_len_mid (l.i * n) (l.i * n + n - l.i * n) l.out c.copy_from_slice.new.self c.copy_from_slice.auto.self ∙ l.invariant.0,
       front_next f a.targets.now [] a.out.now l.invariant.1 (omega arith) c.copy_from_slice.new.self
-          (after ∙ part_is a.images.now a.n (k s) from refl _ (place s))
-          (ap length after ∙ part_long a.images.now a.n from (from_fits s)),
+          (after ∙ part_is images n (k s) from refl _ (place s))
+          (ap length after ∙ part_long images n from (from_fits s)),
       sym (any_later lost [] a.targets.now l.i (omega arith) (ap is_none (place s))) ∙ l.invariant.2,
     )
 
@@ -87,12 +91,13 @@ pub returns : goal.returns
 returns c =
     let l = c.loop-i in
     let a = c.args in
-    let f = aligned_by a.moved.now a.images.now a.n in
+    let images = a.operations.now.images.now in
+    let n = a.operations.now.sites in
+    let f = aligned_by a.moved.now images n in
     let all : l.i ≡ length a.targets.now = omega arith in
-    let size = ap (λ i. i * a.n) all in
-    let lost : Matrix → Bool = λ g. is_none (last_of a.moved.now g) in
-    record {
-      none_absent = ap not (sym (any-over lost [] a.targets.now l.i (omega arith)) ∙ l.invariant.2);
-      long = λ e. front_long f a.targets.now [] a.out.now l.invariant.1 (omega arith) size;
-      front = λ e. front_all f a.targets.now [] a.out.now l.invariant.1 (omega arith) size;
-    }
+    let size = ap (λ i. i * n) all in
+    let lost : Matrix → Bool = λ g. is_none (last_of a.moved.now g) in (
+      sym l.invariant.2 ∙ any-over lost [] a.targets.now l.i (omega arith),
+      front_long f a.targets.now [] a.out.now l.invariant.1 (omega arith) size,
+      front_all f a.targets.now [] a.out.now l.invariant.1 (omega arith) size,
+    )

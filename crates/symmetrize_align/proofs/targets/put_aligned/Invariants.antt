@@ -10,5 +10,5 @@ use Rattle.symmetrize_align.proofs.targets.put_aligned.Given as goal
 abbrev pub invariant-loop-i : goal.invariant-loop-i
 invariant-loop-i l =
     (length l.out ≡ length l.initial.out)
-    × Front (aligned_by l.moved l.images l.n) l.targets l.i (l.i * l.n) l.initial.out l.out
+    × Front (aligned_by l.moved l.operations.images.now l.operations.sites) l.targets l.i (l.i * l.operations.sites) l.initial.out l.out
     × (any (λ g. is_none (last_of l.moved g)) (drop l.i l.targets) ≡ any (λ g. is_none (last_of l.moved g)) l.targets)

@@ -2,24 +2,23 @@
 use mathlib.Core.Path.{◌≡◌, refl, sym, ap, ◌∙◌}
 use mathlib.Core.Bool.{false, not, ◌||◌}
 use mathlib.Core.List.{List}
-use native.Mathlib.Omega.{arith}
 use lib.ListN.{length}
 use borrow.Author.Tests.{lt-ltb, le-ltb, not-true, not-false}
-use Rattle.definitions.specs.declared.Verdict.TheVariants.{Refused}
+use Rattle.std.specs.Prelude.{Err}
+use Rattle.definitions.specs.declared.Refusal.TheVariants.{Counts, MatrixEntry, SiteImage, Determinant, Buffer}
 use Rattle.definitions.specs.Refusal.{Condition}
 use Rattle.definitions.specs.Calls.{align_conditions}
 use Rattle.definitions.specs.Lent.{bad_permutation_counts}
 use Rattle.definitions.specs.Limits.{not_some, not_unimodular}
 use Rattle.laws.specs.Tests.{so, not_so}
 use Rattle.laws.specs.Verdicts.{HoldsAt, Passed, pass, found_at_lem, refuse, verdict_of}
-use Rattle.symmetrize_align.proofs.Accepted.{answer_small}
 use Rattle.symmetrize_align.proofs.verdicts.verdict.Goals as goal
 use Rattle.symmetrize_align.proofs.verdicts.verdict.Goals.{Else-bad_counts, Else-bad_entries, Else-not-all_permutations, Else-not-unimodular, Start}
 
 abbrev conditions : Start → List Condition
 conditions s =
     let a = s.args in
-    align_conditions a.t a.rotations.now a.images.now a.sites a.targets.now a.room
+    align_conditions a.t a.operations.now.rotations.now a.operations.now.images.now a.operations.now.sites a.targets.now a.room
 
 -- ---- past each test
 
@@ -29,7 +28,7 @@ module _ (c : Else-bad_counts) where
 
   good_counts :
       let a = start₁.args in
-      (bad_permutation_counts a.sites (length a.rotations.now) a.images.now
+      (bad_permutation_counts a.operations.now.sites (length a.operations.now.rotations.now) a.operations.now.images.now
       || not_some (length a.targets.now)) ≡ false
   good_counts = sym c.bad_counts.ensures ∙ c.if-bad_counts.false
 
@@ -69,18 +68,18 @@ module _ (c : Else-not-unimodular) where
 
 pub returns-then-bad_counts : goal.returns-then-bad_counts
 unfolding verdict_of found_at_lem Passed HoldsAt
-returns-then-bad_counts c = refuse _ 0 tt (so (sym c.bad_counts.ensures ∙ c.if-bad_counts.true)) (Refused 2) refl
+returns-then-bad_counts c = refuse _ 0 tt (so (sym c.bad_counts.ensures ∙ c.if-bad_counts.true)) (Err Counts) refl
 
 pub returns-then-bad_entries : goal.returns-then-bad_entries
 unfolding verdict_of found_at_lem HoldsAt
 returns-then-bad_entries c =
-    refuse _ 1 (past₁ (goal.at.returns-then-bad_entries c).Else-bad_counts) (so (sym c.bad_entries.ensures ∙ c.if-bad_entries.true)) (Refused 3) refl
+    refuse _ 1 (past₁ (goal.at.returns-then-bad_entries c).Else-bad_counts) (so (sym c.bad_entries.ensures ∙ c.if-bad_entries.true)) (Err MatrixEntry) refl
 
 pub returns-then-not-all_permutations : goal.returns-then-not-all_permutations
 unfolding verdict_of found_at_lem HoldsAt
 returns-then-not-all_permutations c =
     refuse _ 2 (past₂ (goal.at.returns-then-not-all_permutations c).Else-bad_entries) (so (ap not (sym c.all_permutations.ensures) ∙ (ap not c.if-not-all_permutations.true)))
-    (Refused 5) refl
+    (Err SiteImage) refl
 
 pub returns-then-not-unimodular : goal.returns-then-not-unimodular
 unfolding verdict_of found_at_lem HoldsAt
@@ -88,17 +87,11 @@ returns-then-not-unimodular c =
     refuse _ 3 (past₃ (goal.at.returns-then-not-unimodular c).Else-not-all_permutations)
     (so {b = not_unimodular (start₃ (goal.at.returns-then-not-unimodular c).Else-not-all_permutations).args.t}
     (not-false _ (sym c.unimodular.ensures ∙ c.if-not-unimodular.true)))
-    (Refused 7) refl
-
-pub overflow_mul-answer : goal.overflow_mul-answer
-overflow_mul-answer c =
-    let a = (start₁ (goal.at.overflow_mul-answer c).Else-bad_counts).args in
-    let k = length a.rotations.now in
-    omega (arith, answer_small a.sites k a.images.now (length a.targets.now) (good_counts (goal.at.overflow_mul-answer c).Else-bad_counts))
+    (Err Determinant) refl
 
 pub returns-then-room-answer : goal.returns-then-room-answer
 unfolding verdict_of found_at_lem HoldsAt
-returns-then-room-answer c = refuse _ 4 (past₄ (goal.at.returns-then-room-answer c).Else-not-unimodular) (so (lt-ltb _ _ c.if-room-answer.true)) (Refused 10) refl
+returns-then-room-answer c = refuse _ 4 (past₄ (goal.at.returns-then-room-answer c).Else-not-unimodular) (so (lt-ltb _ _ c.if-room-answer.true)) (Err Buffer) refl
 
 pub returns : goal.returns
 unfolding HoldsAt

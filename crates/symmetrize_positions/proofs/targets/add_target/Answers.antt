@@ -4,10 +4,9 @@ use mathlib.Core.Path.{ap, ◌∙◌}
 use mathlib.Core.List.{[]}
 use native.Mathlib.Omega.{arith}
 use lib.ListN.{length, get_or, length-set}
-use borrow.Author.Rules.{rules}
 use Rattle.definitions.specs.Permutation.{image, inverse_image}
 use Rattle.symmetrize_positions.specs.Targets.{more}
-use Rattle.symmetrize_positions.proofs.Making.{Turns, permuted, make_start, make_step, make_end}
+use Rattle.symmetrize_positions.proofs.Making.{Turns, permuted, make_step, make_end}
 use Rattle.symmetrize_positions.proofs.Sums.{more_is}
 use Rattle.symmetrize_positions.proofs.targets.add_target.Goals as goal
 use Rattle.symmetrize_positions.proofs.targets.add_target.Goals.{After-from-i, Start}
@@ -25,20 +24,11 @@ below w =
 in_list : (w : After-from-i) → w.from-i.result < length w.loop-j.out
 in_list w = omega (arith, below w)
 
-pub loop-j-init : goal.loop-j-init
-loop-j-init c = let a = c.args in (search rules, make_start (length a.positions.now) (inverse_image a.images.now) (more a.positions.now a.m a.translation a.images.now) a.out.now)
-
 pub position_at-requires : goal.position_at-requires
 position_at-requires c = omega (arith, below (goal.at.position_at-requires c).After-from-i)
 
-pub offset_bounds-out-i : goal.offset_bounds-out-i
-offset_bounds-out-i c = let h = in_list (goal.at.offset_bounds-out-i c).After-from-i in search rules
-
 pub slice_copy_out-grown : goal.slice_copy_out-grown
 slice_copy_out-grown c = omega (arith, in_list (goal.at.slice_copy_out-grown c).After-from-i)
-
-pub offset_bounds-out-i-in-loop-j : goal.offset_bounds-out-i-in-loop-j
-offset_bounds-out-i-in-loop-j c = let h = in_list (goal.at.offset_bounds-out-i-in-loop-j c).After-from-i in search rules
 
 pub bounds-out-i : goal.bounds-out-i
 bounds-out-i c = omega (arith, in_list (goal.at.bounds-out-i c).After-from-i)

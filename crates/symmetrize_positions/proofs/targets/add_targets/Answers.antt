@@ -1,11 +1,11 @@
 -- `add_targets`: the sums over the targets before k.
-use Prim.Native.Nat.{ℕ, ◌+◌, ◌*◌, ◌≤◌}
+use Prim.Native.Nat.{ℕ, ◌*◌}
 use mathlib.Core.Path.{refl, subst, ◌∙◌}
 use native.Mathlib.Omega.{arith}
 use lib.ListN.{length}
 use borrow.Author.Rules.{rules}
 use Rattle.symmetrize_positions.specs.Targets.{Counted, Permuted}
-use Rattle.symmetrize_positions.proofs.Sums.{room, part_permutes, sums_more, sums_all}
+use Rattle.symmetrize_positions.proofs.Sums.{sums_more, sums_all}
 use Rattle.symmetrize_positions.proofs.targets.add_targets.Goals as goal
 use Rattle.symmetrize_positions.proofs.targets.add_targets.Goals.{Start, In-loop-k}
 
@@ -23,25 +23,6 @@ module _ (s : Start) where
   permuted =
       let t = s.args.targets.now in
       subst (λ (n : ℕ). Permuted n (length t.rotations.now) t.images.now) s.requires.0 t.permuted
-
--- target k's images are there
-fit : (c : In-loop-k) → c.loop-k.k * length c.args.positions.now + length c.args.positions.now ≤ length c.args.targets.now.images.now
-fit c =
-    let t = c.args.targets.now in
-    room c.loop-k.k (length t.rotations.now) (length c.args.positions.now) (length t.images.now) c.loop-k-test.true
-    (counted (goal.at.In-loop-k c).Start).images
-
-pub loop-k-init : goal.loop-k-init
-loop-k-init c = (search rules, refl, c.requires.2)
-
-pub add_target-requires : goal.add_target-requires
-add_target-requires c =
-    let s = (goal.at.add_target-requires c).Start in
-    let n = length c.args.positions.now in
-    let p =
-    part_permutes c.args.targets.now.images.now n c.loop-k.k (c.loop-k.k * n) refl
-    (fit (goal.at.add_target-requires c).In-loop-k) (permuted s c.loop-k.k c.loop-k-test.true) in
-    (p.0, p.1, omega arith)
 
 pub loop-k-preserved : goal.loop-k-preserved
 loop-k-preserved c =

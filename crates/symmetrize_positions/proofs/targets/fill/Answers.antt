@@ -1,14 +1,9 @@
 -- `fill`: the sums grow from zero in a cleared list, and become means.
 use mathlib.Core.Path.{◌≡◌}
 use lib.ListN.{length}
-use native.Mathlib.Omega.{arith}
-use Rattle.symmetrize_positions.proofs.Cells.{zero_at, filled}
+use Rattle.symmetrize_positions.proofs.Cells.{filled}
 use borrow.Author.Rules.{rules}
 use Rattle.symmetrize_positions.proofs.targets.fill.Goals as goal
-
-pub add_targets-requires : goal.add_targets-requires
-add_targets-requires c =
-    (c.requires.0, search rules, λ i h. zero_at c.args.out.now c.clear.new.out i c.clear.ensures (omega arith))
 
 pub returns : goal.returns
 returns c =

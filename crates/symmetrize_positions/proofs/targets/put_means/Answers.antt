@@ -4,14 +4,10 @@ use mathlib.Core.Path.{refl}
 use mathlib.Core.List.{[]}
 use native.Mathlib.Omega.{arith}
 use lib.ListN.{length, get_or, length-set}
-use borrow.Author.Rules.{rules}
 use Rattle.symmetrize_positions.specs.Targets.{mean}
-use Rattle.symmetrize_positions.proofs.Making.{in_order, make_start, make_step, make_end}
+use Rattle.symmetrize_positions.proofs.Making.{in_order, make_step}
 use Rattle.symmetrize_positions.proofs.Sums.{mean_is}
 use Rattle.symmetrize_positions.proofs.targets.put_means.Goals as goal
-
-pub loop-i-init : goal.loop-i-init
-loop-i-init c = let a = c.args in (search rules, make_start (length a.positions.now) (λ j. j) (mean a.positions.now a.targets) a.out.now)
 
 pub loop-i-preserved : goal.loop-i-preserved
 loop-i-preserved c =
@@ -19,14 +15,7 @@ loop-i-preserved c =
     let a = c.args in
     let ps = a.positions.now in
     let room : length ps ≤ length l.out = omega arith in
-    let x = mean_is ps a.targets l.i (get_or l.out l.i []) c.with_mean.result _ _ c.position_of.ensures c.count_of-by.ensures c.with_mean.ensures in (
+    let x = mean_is ps a.targets l.i (get_or l.out l.i []) c.with_mean.result _ _ c.from.ensures c.count_of-by.ensures c.with_mean.ensures in (
       simp length-set l.invariant.0,
       make_step (length ps) (λ j. j) (λ j. j) (in_order (length ps)) (mean ps a.targets) a.out.now l.out l.i l.i c.with_mean.result room (omega arith) refl x l.invariant.1,
     )
-
-pub returns : goal.returns
-returns c =
-    let l = c.loop-i in
-    let a = c.args in
-    let n = length a.positions.now in
-    make_end n (λ j. j) (λ j. j) (in_order n) (mean a.positions.now a.targets) a.out.now l.out l.i (omega arith) l.invariant.1

@@ -3,7 +3,8 @@ use mathlib.Core.Path.{refl, sym, ap, ◌∙◌}
 use mathlib.Core.Bool.{not}
 use mathlib.Core.List.{List}
 use borrow.Author.Tests.{lt-ltb, le-ltb, not-true, not-false}
-use Rattle.definitions.specs.declared.Verdict.TheVariants.{Refused}
+use Rattle.std.specs.Prelude.{Err}
+use Rattle.definitions.specs.declared.Refusal.TheVariants.{Counts, MatrixEntry, FloatRange, SiteImage, Determinant, Buffer}
 use Rattle.definitions.specs.Refusal.{Condition}
 use Rattle.definitions.specs.Calls.{symmetrize_conditions}
 use Rattle.definitions.specs.Limits.{not_unimodular}
@@ -15,7 +16,7 @@ use Rattle.symmetrize_positions.proofs.verdicts.verdict.Goals.{Else-bad_counts, 
 abbrev conditions : Start → List Condition
 conditions s =
     let a = s.args in
-    symmetrize_conditions a.t a.shift a.positions.now a.rotations.now a.translations.now a.images.now a.room
+    symmetrize_conditions a.t a.shift a.positions.now a.targets.now.rotations.now a.targets.now.translations.now a.targets.now.images.now a.room
 
 -- ---- past each test
 
@@ -63,27 +64,27 @@ module _ (c : Else-not-unimodular) where
 
 pub returns-then-bad_counts : goal.returns-then-bad_counts
 unfolding verdict_of found_at_lem Passed HoldsAt
-returns-then-bad_counts c = refuse _ 0 tt (so (sym c.bad_counts.ensures ∙ c.if-bad_counts.true)) (Refused 2) refl
+returns-then-bad_counts c = refuse _ 0 tt (so (sym c.bad_counts.ensures ∙ c.if-bad_counts.true)) (Err Counts) refl
 
 pub returns-then-bad_entries : goal.returns-then-bad_entries
 unfolding verdict_of found_at_lem HoldsAt
-returns-then-bad_entries c = refuse _ 1 (past₁ (goal.at.returns-then-bad_entries c).Else-bad_counts) (so (sym c.bad_entries.ensures ∙ c.if-bad_entries.true)) (Refused 3) refl
+returns-then-bad_entries c = refuse _ 1 (past₁ (goal.at.returns-then-bad_entries c).Else-bad_counts) (so (sym c.bad_entries.ensures ∙ c.if-bad_entries.true)) (Err MatrixEntry) refl
 
 pub returns-then-bad_floats : goal.returns-then-bad_floats
 unfolding verdict_of found_at_lem HoldsAt
-returns-then-bad_floats c = refuse _ 2 (past₂ (goal.at.returns-then-bad_floats c).Else-bad_entries) (so (sym c.bad_floats.ensures ∙ c.if-bad_floats.true)) (Refused 4) refl
+returns-then-bad_floats c = refuse _ 2 (past₂ (goal.at.returns-then-bad_floats c).Else-bad_entries) (so (sym c.bad_floats.ensures ∙ c.if-bad_floats.true)) (Err FloatRange) refl
 
 pub returns-then-not-all_permutations : goal.returns-then-not-all_permutations
 unfolding verdict_of found_at_lem HoldsAt
-returns-then-not-all_permutations c = refuse _ 3 (past₃ (goal.at.returns-then-not-all_permutations c).Else-bad_floats) (so (ap not (sym c.all_permutations.ensures) ∙ (ap not c.if-not-all_permutations.true))) (Refused 5) refl
+returns-then-not-all_permutations c = refuse _ 3 (past₃ (goal.at.returns-then-not-all_permutations c).Else-bad_floats) (so (ap not (sym c.all_permutations.ensures) ∙ (ap not c.if-not-all_permutations.true))) (Err SiteImage) refl
 
 pub returns-then-not-unimodular : goal.returns-then-not-unimodular
 unfolding verdict_of found_at_lem HoldsAt
-returns-then-not-unimodular c = refuse _ 4 (past₄ (goal.at.returns-then-not-unimodular c).Else-not-all_permutations) (so {b = not_unimodular (start₄ (goal.at.returns-then-not-unimodular c).Else-not-all_permutations).args.t} (not-false _ (sym c.unimodular.ensures ∙ c.if-not-unimodular.true))) (Refused 7) refl
+returns-then-not-unimodular c = refuse _ 4 (past₄ (goal.at.returns-then-not-unimodular c).Else-not-all_permutations) (so {b = not_unimodular (start₄ (goal.at.returns-then-not-unimodular c).Else-not-all_permutations).args.t} (not-false _ (sym c.unimodular.ensures ∙ c.if-not-unimodular.true))) (Err Determinant) refl
 
 pub returns-then-room-positions : goal.returns-then-room-positions
 unfolding verdict_of found_at_lem HoldsAt
-returns-then-room-positions c = refuse _ 5 (past₅ (goal.at.returns-then-room-positions c).Else-not-unimodular) (so (lt-ltb _ _ c.if-room-positions.true)) (Refused 10) refl
+returns-then-room-positions c = refuse _ 5 (past₅ (goal.at.returns-then-room-positions c).Else-not-unimodular) (so (lt-ltb _ _ c.if-room-positions.true)) (Err Buffer) refl
 
 pub returns : goal.returns
 unfolding verdict_of found_none HoldsAt
