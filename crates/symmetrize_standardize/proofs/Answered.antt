@@ -7,9 +7,10 @@ use native.Mathlib.Omega.{arith}
 use lib.ListN.{length, get_or, length-map}
 use lib.Dec.{T, ltb}
 use borrow.Author.Tests.{le-ltb, lt-ltb, eq-eqb}
-use Rattle.definitions.specs.declared.Verdict.TheVariants.{Accepted, Refused}
+use Rattle.std.specs.Prelude.{Err, Ok}
+use Rattle.definitions.specs.declared.Refusal.TheVariants.{OrbitFit}
 use Rattle.definitions.specs.Lists.{all, any, Each}
-use Rattle.definitions.specs.Refusal.{Checked, Holds, orbit_fit}
+use Rattle.definitions.specs.Refusal.{Checked, Holds}
 use Rattle.definitions.specs.Limits.{copies, too_many_listed, too_many_candidates, shorter_than}
 use Rattle.definitions.specs.Snf.{Run, points}
 use Rattle.definitions.specs.Job.{Job}
@@ -172,10 +173,10 @@ module _ (x : Given) (rooms : Rooms) (p : Passed (conditions x rooms) 12) (shape
   unfolding job_from work
   fitting e u = not_so e (subst (λ g. T (orbit_without_fit g)) (equal_sites (same-design j u.0 r) u.1.0 work.found) u.1.1)
 
-  pub accepted_past : orbit_without_fit (sites_of work.found) ≡ false → Checked (conditions x rooms) Accepted
+  pub accepted_past : orbit_without_fit (sites_of work.found) ≡ false → Checked (conditions x rooms) (Ok tt)
   unfolding HoldsAt verdict_of found_none
   accepted_past e = accept (conditions x rooms) (pass (conditions x rooms) 12 p (fitting e)) refl
 
-  pub refused_there : orbit_without_fit (sites_of work.found) ≡ true → Checked (conditions x rooms) (Refused orbit_fit)
+  pub refused_there : orbit_without_fit (sites_of work.found) ≡ true → Checked (conditions x rooms) (Err OrbitFit)
   unfolding HoldsAt verdict_of found_at_lem
-  refused_there e = refuse (conditions x rooms) 12 p (thirteen (so e)) (Refused orbit_fit) refl
+  refused_there e = refuse (conditions x rooms) 12 p (thirteen (so e)) (Err OrbitFit) refl

@@ -3,16 +3,18 @@ use Prim.Native.Nat.{ℕ, ◌*◌}
 use mathlib.Core.Path.{◌≡◌, refl, sym, ap, ◌∙◌, subst}
 use mathlib.Core.Bool.{Bool, true, false, not, cond}
 use mathlib.Core.List.{List, [], map}
-use native.Mathlib.Omega.{arith}
 use lib.ListN.{length, take}
 use lib.IntN.{ℤ, pos}
 use lib.Ieee.{Float}
 use borrow.Author.Tests.{not-true, not-false}
-use Rattle.definitions.specs.declared.Verdict.{Verdict}
-use Rattle.definitions.specs.declared.Verdict.TheVariants.{Refused}
-use Rattle.definitions.specs.declared.Standardized.{Standardized}
-use Rattle.definitions.specs.declared.Standardized.TheVariants as standardized
-use Rattle.definitions.specs.Refusal.{Checked, Holds, padded, lent_value, accepted, refused, orbit_fit}
+use Rattle.definitions.specs.Refusal.{Verdict}
+use Rattle.std.specs.Prelude.{Result, Err, Ok}
+use Rattle.std.specs.Result.{is_err}
+use lib.Dec.{T}
+use Rattle.definitions.specs.declared.Refusal.TheVariants.{OrbitFit}
+use Rattle.definitions.specs.declared.Refusal.{Refusal}
+use Rattle.definitions.specs.declared.AnswerCounts.{AnswerCounts}
+use Rattle.definitions.specs.Refusal.{Checked, Holds, padded, lent_value, accepted, refused, orbit_fit, outcome, number}
 use Rattle.definitions.specs.Limits.{copies}
 use Rattle.definitions.specs.Real.{RealMatrix}
 use Rattle.definitions.specs.Lists.{each}
@@ -28,15 +30,15 @@ use Rattle.definitions.specs.Calls.{centring_conditions, align_conditions, Align
 use Rattle.definitions.specs.SiteCalls.{ListingCells, HoldsListing, listing_at, CopiesListed, LabelArguments, LetterCells}
 use Rattle.definitions.specs.SiteCalls.{SpaceCells, space_rooms, HoldsSpaces, prepare_all_conditions, PrepareAllPromise, Assigned}
 use Rattle.definitions.specs.Standardize.{Rooms, site_count, Work, answer_of, IsAnswer}
-use Rattle.definitions.specs.WholeCalls.{Given, job_from, AnswerCells, rooms_of, HoldsAnswer, nothing_answered, ListsPromise}
-use Rattle.laws.specs.Verdicts.{Passed, refused_with_lem, accepted_with}
+use Rattle.definitions.specs.WholeCalls.{Given, job_from, AnswerCells, rooms_of, HoldsAnswer, nothing_answered, answer_counts, ListsPromise}
+use Rattle.laws.specs.Verdicts.{Passed, refused_with_lem, accepted_with, tells_answer, tells_number, not_both}
 use Rattle.math_matrix.specs.Laws.{Three}
 use Rattle.math_snf_laws.specs.Unique.{run_unique}
 use Rattle.base_cell.specs.Grouping.{OrbitsLabelled}
 use Rattle.base_cell.proofs.Tables.{length-multiplicities}
 use Rattle.base_transformation_laws.proofs.Listed.{positions_count as listed-count}
 use Rattle.symmetrize_standardize_laws.specs.Found.{positions_count}
-use Rattle.symmetrize_standardize.specs.Stages.{CellListed, assigning, label_cells, OrbitsLettered, told_by, Finished, Uncleared}
+use Rattle.symmetrize_standardize.specs.Stages.{CellListed, assigning, label_cells, told_by, Finished, Uncleared}
 use Rattle.symmetrize_standardize.proofs.General.{promised_checked, promised_answer}
 use Rattle.symmetrize_standardize.proofs.Facts.{of_elements}
 use Rattle.symmetrize_standardize.proofs.Ladder.{conditions, table_rooms, aligned_room, Right, listed_is}
@@ -57,19 +59,18 @@ letter_cells e = record { labels = e.labels; multiplicities = e.multiplicities; 
 
 pub finished_by :
     (i k : ℕ) → i ≡ k → (sites count : ℕ) (images mapping : List ℕ) (ps : List (List Float)) (basis : RealMatrix) (symprec : Float)
-    (candidates letters : List ℕ) (spaces : SpaceCells) (entry exit : LetterCells) (whole : Bool) (r : Standardized) →
-    OrbitsLettered (record { sites = sites; count = count; images = images; mapping = take i mapping })
+    (candidates letters : List ℕ) (spaces : SpaceCells) (entry exit : LetterCells) (r : Result AnswerCounts Refusal) →
+    Finished i (record { sites = sites; count = count; images = images; mapping = take i mapping })
     (record { positions = take i ps; basis = basis; symprec = symprec; candidates = candidates; letters = letters; spaces = spaces })
-    entry exit whole →
-    r ≡ told_by whole i exit.labels →
+    entry exit r →
     Finished k (record { sites = sites; count = count; images = images; mapping = take k mapping })
     (record { positions = take k ps; basis = basis; symprec = symprec; candidates = candidates; letters = letters; spaces = spaces })
     entry exit r
-finished_by i k e sites count images mapping ps basis symprec candidates letters spaces entry exit whole r o t =
+finished_by i k e sites count images mapping ps basis symprec candidates letters spaces entry exit r f =
     subst
     (λ n. Finished n (record { sites = sites; count = count; images = images; mapping = take n mapping })
     (record { positions = take n ps; basis = basis; symprec = symprec; candidates = candidates; letters = letters; spaces = spaces })
-    entry exit r) e (whole, o, t)
+    entry exit r) e f
 
 -- ---- the prepared candidates, the bases and the factors
 
@@ -129,8 +130,9 @@ right_of x before after v₁ rooms₁ prepared old new v₂ room₂ alignment ba
 -- ---- the promise
 
 pub refused_uncleared :
-    (x : Given) (e z : AnswerCells) (k : ℕ) → Checked (conditions x (rooms_of e)) (Refused k) → Uncleared x e z (standardized.Refused k)
-refused_uncleared x e z k h = (refused k, (refused_with_lem (conditions x (rooms_of e)) (IsAnswer (job_from x)) k h, tt), refl)
+    (x : Given) (e z : AnswerCells) (r : Refusal) → Checked (conditions x (rooms_of e)) (Err r) → Uncleared x e z (Err r)
+refused_uncleared x e z r h =
+    (refused (number r), (refused_with_lem (conditions x (rooms_of e)) (IsAnswer (job_from x)) r h, tt), refl)
 
 module _ (x : Given) (e z : AnswerCells) (shape : Three x.c) (p : Passed (conditions x (rooms_of e)) 12) where
   abbrev j : Job
@@ -156,7 +158,7 @@ module _ (x : Given) (e z : AnswerCells) (shape : Three x.c) (p : Passed (condit
     pub listing : HoldsListing (listing_cells e) (listing_cells z) (listing_at x.c x.elements (primitive_positions (job_from x)) (points run.third))
 
   pub listed :
-      CellListed x.t x.shift x.c x.elements x.positions x.rotations_of_targets x.translations_of_targets (each (λ q. q) (aligned (job_from x)))
+      CellListed x (each (λ q. q) (aligned (job_from x)))
       e.primitive z.primitive (listing_cells e) (listing_cells z) →
       Listed
   listed h =
@@ -263,7 +265,7 @@ module _ (x : Given) (e z : AnswerCells) (shape : Three x.c) (p : Passed (condit
 
     pub concluded :
         (whole : Bool) → Assigned (lettering x (rooms_of e) p shape l.run ss are ls labels long) e.letters z.letters whole →
-        (r : Standardized) → r ≡ told_by whole (length x.positions * copies x.c) z.labels → Uncleared x e z r
+        (r : Result AnswerCounts Refusal) → r ≡ told_by whole (length x.positions * copies x.c) z.labels → Uncleared x e z r
     unfolding work
     concluded whole a r told =
         let (judged, held) = letters_held x (rooms_of e) p shape l.run ss are ls labels long e.letters z.letters whole (known_roomy x (rooms_of e) p).letters a in
@@ -282,16 +284,17 @@ module _ (x : Given) (e z : AnswerCells) (shape : Three x.c) (p : Passed (condit
                 (accepted_past x (rooms_of e) p shape l.run ss are ls labels long (not-true unfit (sym q))) (done, refl),
             holds h,
           ),
-          (λ i. standardized.Accepted (listed_is x (known_like x (rooms_of e) p) i) (length (orbits (sym labels_front i)))) ∙ sym t,
+          (λ i. accepted (record { sites = listed_is x (known_like x (rooms_of e) p) i; orbits = length (orbits (sym labels_front i)) }))
+              ∙ ap (λ s. outcome (λ b. b) s) (sym t),
         )
         by false q h t = (
           refused orbit_fit,
           (
-            refused_with_lem (conditions x (rooms_of e)) (IsAnswer j) orbit_fit
+            refused_with_lem (conditions x (rooms_of e)) (IsAnswer j) OrbitFit
                 (refused_there x (rooms_of e) p shape l.run ss are ls labels long (not-false unfit (sym q))),
             tt,
           ),
-          sym t,
+          ap (λ s. outcome (λ b. b) s) (sym t),
         )
 
   -- ---- by the sub-calls' promises
@@ -304,9 +307,9 @@ module _ (x : Given) (e z : AnswerCells) (shape : Three x.c) (p : Passed (condit
       (v₄ : Verdict) → FactorsPromise x.c z.factors v₄ →
       (is : List ℕ) → is ≡ take (length x.rotations_of_targets * length x.positions) new →
       (lent : SpaceCells) → lent ≡ fronts (length x.texts) after →
-      CellListed x.t x.shift x.c x.elements x.positions x.rotations_of_targets x.translations_of_targets is
+      CellListed x is
       e.primitive z.primitive (listing_cells e) (listing_cells z) →
-      (r : Standardized) →
+      (r : Result AnswerCounts Refusal) →
       Finished (length x.positions * copies x.c)
       (record {
         sites = length x.positions;
@@ -330,7 +333,7 @@ module _ (x : Given) (e z : AnswerCells) (shape : Three x.c) (p : Passed (condit
       let same-images : is ≡ images = is_front ∙ images_of x rooms p old new v₂ room₂ alignment in
       let l =
       listed
-      (subst (λ l. CellListed x.t x.shift x.c x.elements x.positions x.rotations_of_targets x.translations_of_targets l
+      (subst (λ l. CellListed x l
       e.primitive z.primitive (listing_cells e) (listing_cells z)) same-images cell) in
       let (ss, are, tables) = spaces_held x rooms p before after v₁ rooms₁ prepared in
       let (pb, lb) = bases_held x rooms p basis z.primitive_cell_basis z.listed_cell_basis v₃ lattice in
@@ -351,25 +354,56 @@ module _ (x : Given) (e z : AnswerCells) (shape : Three x.c) (p : Passed (condit
       labelling : List ℕ → List ℕ → LabelArguments
       labelling is mapping = record { sites = n; count = k; images = is; mapping = mapping }
 
+-- where six of the lists are given back as they were left
+pub given_back :
+    (x : Given) (e y : AnswerCells) (r : Result AnswerCounts Refusal) {ps : List (List Float)} {fs : List (List ℤ)} {ms : List ℕ} {es : List ℤ} {ls us : List ℕ} →
+    Uncleared x e y r → ps ≡ y.positions → fs ≡ y.points → ms ≡ y.mapping → es ≡ y.elements → ls ≡ y.labels → us ≡ y.multiplicities →
+    Uncleared x e
+    (record {
+      positions = ps;
+      points = fs;
+      mapping = ms;
+      elements = es;
+      labels = ls;
+      multiplicities = us;
+      letters = y.letters;
+      primitive = y.primitive;
+      primitive_cell_basis = y.primitive_cell_basis;
+      listed_cell_basis = y.listed_cell_basis;
+      factors = y.factors;
+    }) r
+given_back x e y r {ps} {fs} {ms} {es} {ls} {us} u a b c d f g =
+    subst (λ z. Uncleared x e z r)
+    (λ i.
+    record {
+      positions = sym a i;
+      points = sym b i;
+      mapping = sym c i;
+      elements = sym d i;
+      labels = sym f i;
+      multiplicities = sym g i;
+      letters = y.letters;
+      primitive = y.primitive;
+      primitive_cell_basis = y.primitive_cell_basis;
+      listed_cell_basis = y.listed_cell_basis;
+      factors = y.factors;
+    }) u
+
 -- ---- cleared after a refusal
 
 -- lent lists that were cleared, from what was left in them
 pub cleared_from :
-    (e y z : AnswerCells) →
-    length y.positions ≡ length e.positions → length y.points ≡ length e.points → length y.mapping ≡ length e.mapping →
-    length y.elements ≡ length e.elements → length y.labels ≡ length e.labels →
-    length y.multiplicities ≡ length e.multiplicities → length y.letters ≡ length e.letters →
-    length y.primitive ≡ length e.primitive → HoldsAnswer y z nothing_answered → HoldsAnswer e z nothing_answered
-cleared_from e y z p₁ p₂ p₃ p₄ p₅ p₆ p₇ p₈ h =
+    (e y z : AnswerCells) → rooms_of y ≡ rooms_of e → HoldsAnswer y z nothing_answered → HoldsAnswer e z nothing_answered
+cleared_from e y z r h =
     record {
-      positions = h.positions ∙ ap (λ n. padded zero_cells [] n) p₁;
-      points = h.points ∙ ap (λ n. padded zero_point [] n) p₂;
-      mapping = h.mapping ∙ ap (λ n. padded 0 [] n) p₃;
-      elements = h.elements ∙ ap (λ n. padded (pos 0) [] n) p₄;
-      labels = h.labels ∙ ap (λ n. padded 0 [] n) p₅;
-      multiplicities = h.multiplicities ∙ ap (λ n. padded 0 [] n) p₆;
-      letters = h.letters ∙ ap (λ n. padded 0 [] n) p₇;
-      primitive = h.primitive ∙ ap (λ n. padded zero_cells [] n) p₈;
+      positions = h.positions ∙ ap (λ n. padded zero_cells [] n.positions) r;
+      points = h.points ∙ ap (λ n. padded zero_point [] n.points) r;
+      mapping = h.mapping ∙ ap (λ n. padded 0 [] n.mapping) r;
+      elements = h.elements ∙ ap (λ n. padded (pos 0) [] n.elements) r;
+      labels = h.labels ∙ ap (λ n. padded 0 [] n.labels) r;
+      multiplicities = h.multiplicities ∙ ap (λ n. padded 0 [] n.multiplicities) r;
+      letters = h.letters ∙ ap (λ n. padded 0 [] n.letters) r;
+      primitive = h.primitive ∙ ap (λ n. padded zero_cells [] n.primitive) r;
       primitive_cell_basis = h.primitive_cell_basis;
       listed_cell_basis = h.listed_cell_basis;
       factors = h.factors;
@@ -377,18 +411,14 @@ cleared_from e y z p₁ p₂ p₃ p₄ p₅ p₆ p₇ p₈ h =
 
 -- the promise of the call, from what it is before it clears
 pub promise_refused :
-    (x : Given) (e y z : AnswerCells) (r : Standardized) (k : ℕ) → r ≡ standardized.Refused k → Uncleared x e y r →
+    (x : Given) (e y z : AnswerCells) (r : Result AnswerCounts Refusal) → is_err r ≡ true → Uncleared x e y r →
     HoldsAnswer e z nothing_answered → ListsPromise x e z r
-promise_refused x e y z r k told (accepted a, h, t) clear = absurd (apart (t ∙ told))
-  where
-    apart : standardized.Accepted a.sites a.orbits ≡ standardized.Refused k → ⊥
-    apart q = let n : ◌≡◌ {A = ℕ} 0 1 = cc in omega arith
-promise_refused x e y z r k told (refused i, h, t) clear = (refused i, (h.0, clear), t)
+promise_refused x e y z (Ok c) told u clear = absurd (subst T (sym told) tt)
+promise_refused x e y z (Err s) told (accepted a, h, t) clear = absurd (not_both (Err s) _ s (tells_answer answer_counts a (Err s) t) refl)
+promise_refused x e y z (Err s) told (refused i, h, t) clear = (refused i, (h.0, clear), t)
 
 pub promise_accepted :
-    (x : Given) (e z : AnswerCells) (r : Standardized) (n m : ℕ) → r ≡ standardized.Accepted n m → Uncleared x e z r → ListsPromise x e z r
-promise_accepted x e z r n m told (accepted a, h, t) = (accepted a, h, t)
-promise_accepted x e z r n m told (refused k, h, t) = absurd (apart (t ∙ told))
-  where
-    apart : standardized.Refused k ≡ standardized.Accepted n m → ⊥
-    apart q = let i : ◌≡◌ {A = ℕ} 0 1 = cc in omega arith
+    (x : Given) (e z : AnswerCells) (r : Result AnswerCounts Refusal) → is_err r ≡ false → Uncleared x e z r → ListsPromise x e z r
+promise_accepted x e z (Ok c) told (accepted a, h, t) = (accepted a, h, t)
+promise_accepted x e z (Ok c) told (refused i, h, t) = let n = tells_number answer_counts i (Ok c) t in absurd (not_both (Ok c) c n.0 refl n.1)
+promise_accepted x e z (Err s) told u = absurd (subst T told tt)

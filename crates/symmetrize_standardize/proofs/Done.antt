@@ -8,8 +8,8 @@ use lib.Dec.{ltb}
 use lib.IntN.{ℤ}
 use lib.Ieee.{Float}
 use borrow.Author.Tests.{le-ltb, eq-eqb}
-use Rattle.definitions.specs.declared.Verdict.{Verdict}
-use Rattle.definitions.specs.declared.Verdict.TheVariants.{Accepted}
+use Rattle.definitions.specs.Refusal.{Verdict}
+use Rattle.std.specs.Prelude.{Ok}
 use Rattle.definitions.specs.Lists.{any, each, Each}
 use Rattle.definitions.specs.Refusal.{Checked, Holds, padded, written}
 use Rattle.definitions.specs.Limits.{copies, most_copies, too_many_sites, shorter_than}
@@ -120,7 +120,7 @@ module _ (x : Given) (rooms : Rooms) (p : Passed (conditions x rooms) 12) where
       (r : Run x.c) × (take (copies x.c) new ≡ points r.third) × (length (points r.third) ≡ copies x.c)
   points_held shape old new v room h =
       let e = points_accept x rooms p v (subst (λ r. Checked (points_conditions x.c r) v) room h.0) in
-      let held : PointsLent x.c old new Accepted = subst (PointsLent x.c old new) e h.1 in
+      let held : PointsLent x.c old new (Ok tt) = subst (PointsLent x.c old new) e h.1 in
       let long = run-points-count shape (known_regular x rooms p) held.0 in
       (held.0, front_of zero_point (points held.0.third) new (length old) m held.1 long, long)
 

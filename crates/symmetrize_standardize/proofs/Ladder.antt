@@ -1,19 +1,22 @@
 -- The whole call's verdict before 13: by its own tests up to 4, then by what its sub-calls told.
 use Prim.Native.Nat.{ℕ, ◌*◌, ◌≤◌, ◌<◌}
+use Rattle.std.specs.Prelude.{min}
+use Rattle.std.proofs.Math.Nat.{min-le_left, min-le_right}
 use mathlib.Core.Path.{◌≡◌, refl, sym, ap, ◌∙◌, subst}
 use mathlib.Core.Bool.{Bool, true, false, ◌||◌, cond}
 use mathlib.Core.List.{List, [], ◌∷◌}
 use mathlib.Core.Logic.{◌⊎◌, inl, inr, ⊎_elim}
 use native.Mathlib.Omega.{arith}
-use native.Mathlib.Nat.{le_refl}
+use native.Mathlib.Nat.{le_refl, le-min}
 use lib.ListN.{length}
 use lib.Dec.{T, ltb}
-use borrow.Author.Tests.{ltb-true, ltb-false, le-ltb}
-use Rattle.definitions.specs.declared.Verdict.{Verdict}
-use Rattle.definitions.specs.declared.Verdict.TheVariants.{Accepted, Refused}
+use borrow.Author.Tests.{ltb-true, ltb-false, lt-ltb, le-ltb}
+use Rattle.definitions.specs.Refusal.{Verdict}
+use Rattle.std.specs.Prelude.{Err, Ok}
+use Rattle.definitions.specs.declared.Refusal.TheVariants.{Counts, MatrixEntry, FloatRange, SiteImage, Coordinates, Determinant, Diagonalisation}
+use Rattle.definitions.specs.declared.Refusal.TheVariants.{ListedSites, Buffer, TargetRotation, Lattice}
 use Rattle.definitions.specs.Lists.{any, Some}
-use Rattle.definitions.specs.Refusal.{Condition, Applies, Checked, precedence, counts, matrix_entry, float_range, site_image}
-use Rattle.definitions.specs.Refusal.{coordinates, determinant, diagonalisation, listed_sites, buffer, target_rotation, lattice}
+use Rattle.definitions.specs.Refusal.{Condition, Applies, Checked, precedence}
 use Rattle.definitions.specs.Limits.{too_many_sites, not_some, too_many_candidates, not_unimodular, bad_copies, copies, too_many_listed, shorter_than}
 use Rattle.definitions.specs.Lent.{bad_images}
 use Rattle.definitions.specs.Snf.{Leaves}
@@ -28,7 +31,8 @@ use Rattle.laws.specs.Limits.{few_entries}
 use Rattle.laws.specs.Order.{numbered}
 use Rattle.laws.specs.Verdicts.{HoldsAt, Passed, found_at_lem, refuse, verdict_of}
 use Rattle.symmetrize_standardize.specs.Stages.{refused_with, list_counts, list_entries, list_floats, given_verdict}
-use Rattle.symmetrize_standardize.specs.Stages.{candidates_room, images_room, Told, lesser, least_room, work_verdict, whole_verdict}
+use Rattle.symmetrize_standardize.specs.declared.verdicts.Told.{Told}
+use Rattle.symmetrize_standardize.specs.Stages.{candidates_room, images_room, least_room, work_verdict, whole_verdict}
 use Rattle.symmetrize_standardize.proofs.General.{Until, rung, until_then, told_applies, told_first}
 use Rattle.symmetrize_standardize.proofs.Facts.{Like, like, site-count, of_operations, of_targets, of_texts}
 use Rattle.symmetrize_standardize.proofs.Facts.{same-counts, same_entries, same-floats, same-images, Within, within}
@@ -59,14 +63,14 @@ module _ (x : Given) (rooms : Rooms) where
   pub given_until : Until conditions 4 (given_verdict x)
   unfolding Passed HoldsAt verdict_of found_at_lem
   given_until =
-      rung conditions 0 4 counts (unlike_lists x) _ tt (λ h. h) (λ h. h) (λ p h. refl) (λ p₁.
+      rung conditions 0 4 Counts (unlike_lists x) _ tt (λ h. h) (λ h. h) (λ p h. refl) (λ p₁.
       let k = like x (off _ p₁.0) in
-      rung conditions 1 4 counts (list_counts x) _ p₁ (subst T (sym (same-counts x k))) (subst T (same-counts x k)) (λ p h. refl) (λ p₂.
-      rung conditions 2 4 matrix_entry (list_entries x) _ p₂ (subst T (sym (same_entries x k))) (subst T (same_entries x k)) (λ p h. refl) (λ p₃.
-      rung conditions 3 4 float_range (list_floats x) Accepted p₃ (subst T (sym (same-floats x k))) (subst T (same-floats x k)) (λ p h. refl) (λ p₄. p₄))))
+      rung conditions 1 4 Counts (list_counts x) _ p₁ (subst T (sym (same-counts x k))) (subst T (same-counts x k)) (λ p h. refl) (λ p₂.
+      rung conditions 2 4 MatrixEntry (list_entries x) _ p₂ (subst T (sym (same_entries x k))) (subst T (same_entries x k)) (λ p h. refl) (λ p₃.
+      rung conditions 3 4 FloatRange (list_floats x) (Ok tt) p₃ (subst T (sym (same-floats x k))) (subst T (same-floats x k)) (λ p h. refl) (λ p₄. p₄))))
 
 -- few sites, where the first verdict accepts
-pub given_few : (x : Given) → given_verdict x ≡ Accepted → length x.positions ≤ 256
+pub given_few : (x : Given) → given_verdict x ≡ (Ok tt) → length x.positions ≤ 256
 given_few x e = ltb-false _ _ (within_limits x nowhere (subst (Until (conditions x nowhere) 4) e (given_until x nowhere))).sites
   where
     nowhere : Rooms
@@ -155,113 +159,104 @@ module _ (x : Given) (w : Within x) where
 -- ---- 5 and 11 by the aligned permutations, 6 and 8 by the prepared candidates, 8 by C, 12 by the lattice
 
 module _ (x : Given) (s : Told) (r : Right x s) (w : Within x) where
-  pub five : T (refused_with site_image s.aligned) → T (bad_images (length x.positions) (length x.rotations) x.images)
+  pub five : T (refused_with SiteImage s.aligned) → T (bad_images (length x.positions) (length x.rotations) x.images)
   unfolding Applies
   five h =
       ⊎_elim (λ b. b) (λ n. absurd n)
-      (told_applies (align_conditions x.t x.rotations x.images (length x.positions) x.rotations_of_targets (aligned_room x)) s.aligned r.aligned site_image h)
+      (told_applies (align_conditions x.t x.rotations x.images (length x.positions) x.rotations_of_targets (aligned_room x)) s.aligned r.aligned SiteImage h)
 
-  pub from_five : T (bad_images (length x.positions) (length x.rotations) x.images) → T (refused_with site_image s.aligned)
+  pub from_five : T (bad_images (length x.positions) (length x.rotations) x.images) → T (refused_with SiteImage s.aligned)
   unfolding HoldsAt verdict_of found_at_lem numbered any precedence
   from_five h =
       let cs = align_conditions x.t x.rotations x.images (length x.positions) x.rotations_of_targets (aligned_room x) in
-      told_first cs tt s.aligned r.aligned site_image
-      (refuse cs 2 (align_limits x w) h (Refused site_image) refl)
+      told_first cs tt s.aligned r.aligned SiteImage
+      (refuse cs 2 (align_limits x w) h (Err SiteImage) refl)
 
-  pub six : T (refused_with coordinates s.prepared) → BadCoordinates x.texts
+  pub six : T (refused_with Coordinates s.prepared) → BadCoordinates x.texts
   unfolding Applies
-  six h = ⊎_elim (λ b. b) (λ n. absurd n) (told_applies (prepare_all_conditions x.texts (table_rooms x)) s.prepared r.prepared coordinates h)
+  six h = ⊎_elim (λ b. b) (λ n. absurd n) (told_applies (prepare_all_conditions x.texts (table_rooms x)) s.prepared r.prepared Coordinates h)
 
-  pub from_six : BadCoordinates x.texts → T (refused_with coordinates s.prepared)
+  pub from_six : BadCoordinates x.texts → T (refused_with Coordinates s.prepared)
   unfolding HoldsAt verdict_of found_at_lem numbered any precedence
   from_six b =
-      told_first (prepare_all_conditions x.texts (table_rooms x)) tt s.prepared r.prepared coordinates
-      (refuse (prepare_all_conditions x.texts (table_rooms x)) 1 (prepare_counts x w) b (Refused coordinates) refl)
+      told_first (prepare_all_conditions x.texts (table_rooms x)) tt s.prepared r.prepared Coordinates
+      (refuse (prepare_all_conditions x.texts (table_rooms x)) 1 (prepare_counts x w) b (Err Coordinates) refl)
 
-  pub eight : T (refused_with diagonalisation s.factors || refused_with diagonalisation s.prepared) → Leaves x.c ⊎ Some TextLeaves x.texts
+  pub eight : T (refused_with Diagonalisation s.factors || refused_with Diagonalisation s.prepared) → Leaves x.c ⊎ Some TextLeaves x.texts
   unfolding Applies
-  eight h = by (refused_with diagonalisation s.factors) refl h
+  eight h = by (refused_with Diagonalisation s.factors) refl h
     where
-      of_c : T (refused_with diagonalisation s.factors) → Leaves x.c
-      of_c h = ⊎_elim (λ b. b) (λ n. absurd n) (told_applies (centring_conditions x.c) s.factors r.factors diagonalisation h)
+      of_c : T (refused_with Diagonalisation s.factors) → Leaves x.c
+      of_c h = ⊎_elim (λ b. b) (λ n. absurd n) (told_applies (centring_conditions x.c) s.factors r.factors Diagonalisation h)
 
-      of_texts' : T (refused_with diagonalisation s.prepared) → Some TextLeaves x.texts
-      of_texts' h = ⊎_elim (λ b. b) (λ n. absurd n) (told_applies (prepare_all_conditions x.texts (table_rooms x)) s.prepared r.prepared diagonalisation h)
+      of_texts' : T (refused_with Diagonalisation s.prepared) → Some TextLeaves x.texts
+      of_texts' h = ⊎_elim (λ b. b) (λ n. absurd n) (told_applies (prepare_all_conditions x.texts (table_rooms x)) s.prepared r.prepared Diagonalisation h)
 
-      by : (b : Bool) → refused_with diagonalisation s.factors ≡ b → T (b || refused_with diagonalisation s.prepared) → Leaves x.c ⊎ Some TextLeaves x.texts
+      by : (b : Bool) → refused_with Diagonalisation s.factors ≡ b → T (b || refused_with Diagonalisation s.prepared) → Leaves x.c ⊎ Some TextLeaves x.texts
       by true e h = inl (of_c (so e))
       by false e h = inr (of_texts' h)
 
   pub from_eight :
       (BadCoordinates x.texts → ⊥) → bad_copies x.c ≡ false → Leaves x.c ⊎ Some TextLeaves x.texts →
-      T (refused_with diagonalisation s.factors || refused_with diagonalisation s.prepared)
+      T (refused_with Diagonalisation s.factors || refused_with Diagonalisation s.prepared)
   unfolding Passed HoldsAt verdict_of found_at_lem numbered any precedence
   from_eight readable copied =
       ⊎_elim
-      (λ l. so (or_left {a = refused_with diagonalisation s.factors} (refused_with diagonalisation s.prepared) (true_of (refused_with diagonalisation s.factors) (of_c l))))
-      (λ l. so (or_right (refused_with diagonalisation s.factors) {b = refused_with diagonalisation s.prepared} (true_of (refused_with diagonalisation s.prepared) (of_texts' l))))
+      (λ l. so (or_left {a = refused_with Diagonalisation s.factors} (refused_with Diagonalisation s.prepared) (true_of (refused_with Diagonalisation s.factors) (of_c l))))
+      (λ l. so (or_right (refused_with Diagonalisation s.factors) {b = refused_with Diagonalisation s.prepared} (true_of (refused_with Diagonalisation s.prepared) (of_texts' l))))
     where
-      of_c : Leaves x.c → T (refused_with diagonalisation s.factors)
+      of_c : Leaves x.c → T (refused_with Diagonalisation s.factors)
       of_c l =
-          told_first (centring_conditions x.c) tt s.factors r.factors diagonalisation
-          (refuse (centring_conditions x.c) 2 ((centring-entries x w).0, (not_so copied, tt)) l (Refused diagonalisation) refl)
+          told_first (centring_conditions x.c) tt s.factors r.factors Diagonalisation
+          (refuse (centring_conditions x.c) 2 ((centring-entries x w).0, (not_so copied, tt)) l (Err Diagonalisation) refl)
 
-      of_texts' : Some TextLeaves x.texts → T (refused_with diagonalisation s.prepared)
+      of_texts' : Some TextLeaves x.texts → T (refused_with Diagonalisation s.prepared)
       of_texts' l =
-          told_first (prepare_all_conditions x.texts (table_rooms x)) tt s.prepared r.prepared diagonalisation
-          (refuse (prepare_all_conditions x.texts (table_rooms x)) 2 ((prepare_counts x w).0, (readable, tt)) l (Refused diagonalisation) refl)
+          told_first (prepare_all_conditions x.texts (table_rooms x)) tt s.prepared r.prepared Diagonalisation
+          (refuse (prepare_all_conditions x.texts (table_rooms x)) 2 ((prepare_counts x w).0, (readable, tt)) l (Err Diagonalisation) refl)
 
-  pub eleven : T (refused_with target_rotation s.aligned) → T (rotation_absent x.t x.rotations x.rotations_of_targets)
+  pub eleven : T (refused_with TargetRotation s.aligned) → T (rotation_absent x.t x.rotations x.rotations_of_targets)
   unfolding Applies
   eleven h =
       ⊎_elim (λ b. b) (λ n. absurd n)
-      (told_applies (align_conditions x.t x.rotations x.images (length x.positions) x.rotations_of_targets (aligned_room x)) s.aligned r.aligned target_rotation h)
+      (told_applies (align_conditions x.t x.rotations x.images (length x.positions) x.rotations_of_targets (aligned_room x)) s.aligned r.aligned TargetRotation h)
 
   pub from_eleven :
       bad_images (length x.positions) (length x.rotations) x.images ≡ false → not_unimodular x.t ≡ false →
-      T (rotation_absent x.t x.rotations x.rotations_of_targets) → T (refused_with target_rotation s.aligned)
+      T (rotation_absent x.t x.rotations x.rotations_of_targets) → T (refused_with TargetRotation s.aligned)
   unfolding HoldsAt verdict_of found_at_lem numbered any precedence
   from_eleven permuted unimodular h =
       let cs = align_conditions x.t x.rotations x.images (length x.positions) x.rotations_of_targets (aligned_room x) in
-      told_first cs tt s.aligned r.aligned target_rotation
-      (refuse cs 5 (align_passed x w unimodular permuted) h (Refused target_rotation) refl)
+      told_first cs tt s.aligned r.aligned TargetRotation
+      (refuse cs 5 (align_passed x w unimodular permuted) h (Err TargetRotation) refl)
 
-  pub twelve : T (refused_with lattice s.lattice) → T (lattice_fails (conventional_basis x.lattice x.t x.c) x.conventional)
+  pub twelve : T (refused_with Lattice s.lattice) → T (lattice_fails (conventional_basis x.lattice x.t x.c) x.conventional)
   unfolding Applies
   twelve h =
       ⊎_elim (λ b. b) (λ n. absurd n)
-      (told_applies (lattice_conditions x.lattice x.t x.c x.conventional) s.lattice r.lattice lattice h)
+      (told_applies (lattice_conditions x.lattice x.t x.c x.conventional) s.lattice r.lattice Lattice h)
 
   pub from_twelve :
       not_unimodular x.t ≡ false → bad_copies x.c ≡ false →
-      T (lattice_fails (conventional_basis x.lattice x.t x.c) x.conventional) → T (refused_with lattice s.lattice)
+      T (lattice_fails (conventional_basis x.lattice x.t x.c) x.conventional) → T (refused_with Lattice s.lattice)
   unfolding HoldsAt verdict_of found_at_lem numbered any precedence
   from_twelve unimodular copied h =
       let cs = lattice_conditions x.lattice x.t x.c x.conventional in
-      told_first cs tt s.lattice r.lattice lattice
-      (refuse cs 4 (lattice_passed x w unimodular copied) h (Refused lattice) refl)
+      told_first cs tt s.lattice r.lattice Lattice
+      (refuse cs 4 (lattice_passed x w unimodular copied) h (Err Lattice) refl)
 
 -- ---- 9 and 10
 
-lesser-short : (a b n : ℕ) → ltb (lesser a b) n ≡ (ltb a n || ltb b n)
-lesser-short a b n = by (ltb a b) refl (ltb a n) refl (ltb b n) refl
+min-short : (a b n : ℕ) → ltb (min a b) n ≡ (ltb a n || ltb b n)
+min-short a b n = by (ltb a n) refl (ltb b n) refl
   where
-    by :
-        (x : Bool) → ltb a b ≡ x → (y : Bool) → ltb a n ≡ y → (z : Bool) → ltb b n ≡ z → ltb (cond x a b) n ≡ (y || z)
-    by true e true f z g = f
-    by true e false f true g =
-        let u : a < b = ltb-true a b e in
-        let v : b < n = ltb-true b n g in
-        let w : n ≤ a = ltb-false a n f in
-        absurd (omega arith)
-    by true e false f false g = f
-    by false e true f true g = g
-    by false e true f false g =
-        let u : b ≤ a = ltb-false a b e in
-        let v : a < n = ltb-true a n f in
-        let w : n ≤ b = ltb-false b n g in
-        absurd (omega arith)
-    by false e false f z g = g
+    by : (y : Bool) → ltb a n ≡ y → (z : Bool) → ltb b n ≡ z → ltb (min a b) n ≡ (y || z)
+    by true f z g = let u : a < n = ltb-true a n f in lt-ltb (min a b) n (omega (arith, min-le_left a b))
+    by false f true g = let u : b < n = ltb-true b n g in lt-ltb (min a b) n (omega (arith, min-le_right a b))
+    by false f false g =
+        let u : n ≤ a = ltb-false a n f in
+        let v : n ≤ b = ltb-false b n g in
+        le-ltb (min a b) n (le-min u v)
 
 any_is : (t : ℕ → Bool) (a : ℕ) (l : List ℕ) → any t (a ∷ l) ≡ (t a || any t l)
 unfolding any
@@ -281,13 +276,13 @@ any_one t a = by (t a)
 
 unfoldable least_of : ℕ → List ℕ → ℕ
 least_of a [] = a
-least_of a (b ∷ l) = lesser a (least_of b l)
+least_of a (b ∷ l) = min a (least_of b l)
 
 least_of-short : (n a : ℕ) (l : List ℕ) → shorter_than n (least_of a l) ≡ any (shorter_than n) (a ∷ l)
 unfolding least_of
 least_of-short n a [] = sym (any_one (shorter_than n) a)
 least_of-short n a (b ∷ l) =
-    lesser-short a (least_of b l) n
+    min-short a (least_of b l) n
     ∙ ap (λ r. shorter_than n a || r) (least_of-short n b l)
     ∙ sym (any_is (shorter_than n) a (b ∷ l))
 
@@ -329,27 +324,27 @@ module _ (x : Given) (rooms : Rooms) (s : Told) (r : Right x s) where
       let k = like_lists x rooms (p₄.0, tt) in
       let w = within_limits x rooms p₄ in
       let texts = of_texts x k in
-      rung cs 4 12 site_image (refused_with site_image s.aligned) _ p₄
+      rung cs 4 12 SiteImage (refused_with SiteImage s.aligned) _ p₄
       (λ h. subst T (sym (same-images x k)) (five x s r w h)) (λ h. from_five x s r w (subst T (same-images x k) h)) (λ p h. refl) (λ p₅.
       let permuted = permutations x rooms p₅ in
-      rung cs 5 12 coordinates (refused_with coordinates s.prepared) _ p₅
+      rung cs 5 12 Coordinates (refused_with Coordinates s.prepared) _ p₅
       (λ h. subst BadCoordinates (sym texts) (six x s r w h)) (λ h. from_six x s r w (subst BadCoordinates texts h)) (λ p h. refl) (λ p₆.
-      rung cs 6 12 determinant (not_unimodular x.t || bad_copies x.c) _ p₆ (λ h. h) (λ h. h) (λ p h. refl) (λ p₇.
+      rung cs 6 12 Determinant (not_unimodular x.t || bad_copies x.c) _ p₆ (λ h. h) (λ h. h) (λ p h. refl) (λ p₇.
       let dets = off _ p₇.1.1.1.1.1.1.0 in
       let unimodular = neither_left (not_unimodular x.t) (bad_copies x.c) dets in
       let copied = neither_right (not_unimodular x.t) (bad_copies x.c) dets in
-      rung cs 7 12 diagonalisation (refused_with diagonalisation s.factors || refused_with diagonalisation s.prepared) _ p₇
+      rung cs 7 12 Diagonalisation (refused_with Diagonalisation s.factors || refused_with Diagonalisation s.prepared) _ p₇
       (λ h. subst (λ ts. Leaves x.c ⊎ Some TextLeaves ts) (sym texts) (eight x s r w h))
       (λ h. from_eight x s r w (λ b. p₇.1.1.1.1.1.0 (subst BadCoordinates (sym texts) b)) copied (subst (λ ts. Leaves x.c ⊎ Some TextLeaves ts) texts h))
       (λ p h. refl) (λ p₈.
-      rung cs 8 12 listed_sites (too_many_listed (length x.positions * copies x.c)) _ p₈
+      rung cs 8 12 ListedSites (too_many_listed (length x.positions * copies x.c)) _ p₈
       (subst (λ n. T (too_many_listed n)) (sym (listed_is x k))) (subst (λ n. T (too_many_listed n)) (listed_is x k)) (λ p h. refl) (λ p₉.
-      rung cs 9 12 buffer
+      rung cs 9 12 Buffer
       (shorter_than (length x.positions * copies x.c) (least_room rooms) || shorter_than (length x.positions) rooms.primitive) _ p₉
       (subst T (sym (short_is x k rooms))) (subst T (short_is x k rooms)) (λ p h. refl) (λ p₁₀.
-      rung cs 10 12 target_rotation (refused_with target_rotation s.aligned) _ p₁₀
+      rung cs 10 12 TargetRotation (refused_with TargetRotation s.aligned) _ p₁₀
       (λ h. subst T (sym (absent_is x k)) (eleven x s r w h)) (λ h. from_eleven x s r w permuted unimodular (subst T (absent_is x k) h)) (λ p h. refl) (λ p₁₁.
-      rung cs 11 12 lattice (refused_with lattice s.lattice) Accepted p₁₁
+      rung cs 11 12 Lattice (refused_with Lattice s.lattice) (Ok tt) p₁₁
       (twelve x s r w) (from_twelve x s r w unimodular copied) (λ p h. refl) (λ p₁₂. p₁₂))))))))
 
   -- Past 12, or refused with the lowest number that applies.

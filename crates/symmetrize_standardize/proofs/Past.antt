@@ -9,8 +9,8 @@ use native.Mathlib.Nat.{le_refl}
 use lib.ListN.{length, replicate, length-replicate}
 use lib.Dec.{T, ltb, eqb}
 use borrow.Author.Tests.{ltb-false, le-ltb, eq-eqb, eqb-false}
-use Rattle.definitions.specs.declared.Verdict.{Verdict}
-use Rattle.definitions.specs.declared.Verdict.TheVariants.{Accepted}
+use Rattle.definitions.specs.Refusal.{Verdict}
+use Rattle.std.specs.Prelude.{Ok}
 use Rattle.definitions.specs.Lists.{all, any, Some, Each, up_to}
 use Rattle.definitions.specs.Refusal.{Applies, NoneOf, Checked, Past, precedence, upto, orbit_fit}
 use Rattle.definitions.specs.Limits.{not_unimodular, bad_copies, copies, too_many_listed, most_copies, shorter_than}
@@ -186,7 +186,7 @@ module _ (x : Given) (rooms : Rooms) (p : Passed (conditions x rooms) 12) where
 
   -- ---- the sub-calls accept
 
-  pub prepared-accepts : (v : Verdict) → Checked (prepare_all_conditions x.texts (table_rooms x)) v → v ≡ Accepted
+  pub prepared-accepts : (v : Verdict) → Checked (prepare_all_conditions x.texts (table_rooms x)) v → v ≡ (Ok tt)
   unfolding Passed numbered any precedence verdict_of found_none Each
   prepared-accepts v e =
       let cs = prepare_all_conditions x.texts (table_rooms x) in
@@ -198,13 +198,13 @@ module _ (x : Given) (rooms : Rooms) (p : Passed (conditions x rooms) 12) where
       told_accepted cs tt v e
       (accept cs (not_so known_within.candidates, (readable, ((λ l. kept (inr l)), (not_so roomy, tt)))) refl)
 
-  pub factors_accept : (v : Verdict) → Checked (centring_conditions x.c) v → v ≡ Accepted
+  pub factors_accept : (v : Verdict) → Checked (centring_conditions x.c) v → v ≡ (Ok tt)
   unfolding Passed numbered any precedence verdict_of found_none
   factors_accept v e =
       told_accepted (centring_conditions x.c) tt v e
       (accept (centring_conditions x.c) (not_so known_within.c_entries, (not_so copied, ((λ l. kept (inl l)), tt))) refl)
 
-  pub points_accept : (v : Verdict) → Checked (points_conditions x.c most_copies) v → v ≡ Accepted
+  pub points_accept : (v : Verdict) → Checked (points_conditions x.c most_copies) v → v ≡ (Ok tt)
   unfolding Passed numbered any precedence verdict_of found_none
   points_accept v e =
       let cs = points_conditions x.c most_copies in
@@ -213,7 +213,7 @@ module _ (x : Given) (rooms : Rooms) (p : Passed (conditions x rooms) 12) where
 
   pub align_accepts :
       (v : Verdict) → Checked (align_conditions x.t x.rotations x.images (length x.positions) x.rotations_of_targets (aligned_room x)) v →
-      v ≡ Accepted
+      v ≡ (Ok tt)
   unfolding Passed numbered any precedence verdict_of found_none
   align_accepts v e =
       let cs = align_conditions x.t x.rotations x.images (length x.positions) x.rotations_of_targets (aligned_room x) in
@@ -222,7 +222,7 @@ module _ (x : Given) (rooms : Rooms) (p : Passed (conditions x rooms) 12) where
       λ h. p.1.1.1.1.1.1.1.1.1.1.0 (subst T (sym (absent_is x known_like)) h) in
       told_accepted cs tt v e (accept cs (q.0, (q.1.0, (q.1.1.0, (q.1.1.1.0, (q.1.1.1.1.0, (present, tt)))))) refl)
 
-  pub lattice-accepts : (v : Verdict) → Checked (lattice_conditions x.lattice x.t x.c x.conventional) v → v ≡ Accepted
+  pub lattice-accepts : (v : Verdict) → Checked (lattice_conditions x.lattice x.t x.c x.conventional) v → v ≡ (Ok tt)
   unfolding Passed numbered any precedence verdict_of found_none job_from
   lattice-accepts v e =
       let cs = lattice_conditions x.lattice x.t x.c x.conventional in
@@ -269,7 +269,7 @@ module _ (x : Given) (rooms : Rooms) (p : Passed (conditions x rooms) 12) where
 
     pub positions_accept :
         (v : Verdict) (room : ℕ) → length x.positions ≤ room →
-        Checked (symmetrize_conditions x.t x.shift x.positions x.rotations_of_targets x.translations_of_targets images room) v → v ≡ Accepted
+        Checked (symmetrize_conditions x.t x.shift x.positions x.rotations_of_targets x.translations_of_targets images room) v → v ≡ (Ok tt)
     unfolding Passed numbered any precedence verdict_of found_none
     positions_accept v room h e =
         let cs = symmetrize_conditions x.t x.shift x.positions x.rotations_of_targets x.translations_of_targets images room in

@@ -1,2 +1,3 @@
 -- The whole call: what its steps are proved against.
 pub mod Stages
+pub mod Given

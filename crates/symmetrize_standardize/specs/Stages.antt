@@ -1,14 +1,12 @@
 -- The verdict of the whole call test by test: of the lists as they are lent, then of what its sub-calls told.
-use Rattle.std.specs.Prelude.{ℕ, ◌*◌, ◌≤◌, ◌≡◌, Bool, false, not, ◌||◌, cond, List, length, take, eqb, ltb, ℤ, Float}
-use Rattle.definitions.specs.declared.Position.{Position}
-use Rattle.definitions.specs.declared.Standardized.{Standardized}
-use Rattle.definitions.specs.declared.Standardized.TheVariants as standardized
-use Rattle.definitions.specs.declared.Verdict.{Verdict}
-use Rattle.definitions.specs.declared.Verdict.TheVariants.{Accepted, Refused}
+use Rattle.std.specs.Prelude.{ℕ, ◌*◌, ◌≤◌, ◌≡◌, Bool, false, not, ◌||◌, cond, List, length, take, eqb, min, ℤ, Float}
+use Rattle.definitions.specs.Refusal.{Verdict, TellsOf, number}
+use Rattle.std.specs.Prelude.{Result, Err, Ok}
+use Rattle.definitions.specs.declared.Refusal.{Refusal}
+use Rattle.definitions.specs.declared.Refusal.TheVariants.{Counts, MatrixEntry, FloatRange, SiteImage, Coordinates, Determinant, Diagonalisation, ListedSites, Buffer, TargetRotation, Lattice, OrbitFit}
+use Rattle.definitions.specs.declared.AnswerCounts.{AnswerCounts}
 use Rattle.definitions.specs.Lists.{all}
-use Rattle.definitions.specs.Refusal.{counts, matrix_entry, float_range, site_image, coordinates, determinant}
-use Rattle.definitions.specs.Refusal.{diagonalisation, listed_sites, buffer, target_rotation, lattice}
-use Rattle.definitions.specs.Refusal.{orbit_fit, Outcome, Answered}
+use Rattle.definitions.specs.Refusal.{Outcome, Answered}
 use Rattle.definitions.specs.Limits.{too_many_sites, not_some, too_many_candidates, in_range, in_range_of_c, lattice_within}
 use Rattle.definitions.specs.Limits.{position_within, good_symprec, not_unimodular, copies, bad_copies, too_many_listed}
 use Rattle.definitions.specs.Limits.{shorter_than, most_copies}
@@ -21,18 +19,20 @@ use Rattle.definitions.specs.SiteCalls.{SpaceCells, AssignArguments, Assigned}
 use Rattle.definitions.specs.Lent.{cells_within, unlike}
 use Rattle.definitions.specs.Standardize.{Rooms, Answer, IsAnswer}
 use Rattle.definitions.specs.WholeCalls.{Given, job_from, unlike_lists, lists_conditions, AnswerCells, rooms_of}
-use Rattle.definitions.specs.WholeCalls.{HoldsAnswer, told_whole}
+use Rattle.definitions.specs.WholeCalls.{HoldsAnswer, answer_counts}
+use Rattle.math_matrix.specs.Laws.{Three}
 use Rattle.base_cell.specs.Grouping.{OrbitsLabelled}
+use Rattle.symmetrize_standardize.specs.declared.verdicts.Told.{Told}
 
--- the verdict is the refusal k
-abbrev pub refused_with : ℕ → Verdict → Bool
-refused_with k Accepted = false
-refused_with k (Refused n) = eqb n k
+-- the verdict is the refusal r
+abbrev pub refused_with : Refusal → Verdict → Bool
+refused_with r (Ok u) = false
+refused_with r (Err s) = eqb (number s) (number r)
 
 -- the second verdict, unless the first is a refusal
 abbrev pub then_verdict : Verdict → Verdict → Verdict
-then_verdict Accepted v = v
-then_verdict (Refused k) v = Refused k
+then_verdict (Ok u) v = v
+then_verdict (Err k) v = Err k
 
 -- ---- 2 to 4, by the lists themselves, where those that belong together have one length
 
@@ -64,10 +64,10 @@ list_floats x =
 
 abbrev pub given_verdict : Given → Verdict
 given_verdict x =
-    cond (unlike_lists x) (Refused counts)
-    (cond (list_counts x) (Refused counts)
-    (cond (list_entries x) (Refused matrix_entry)
-    (cond (list_floats x) (Refused float_range) Accepted)))
+    cond (unlike_lists x) (Err Counts)
+    (cond (list_counts x) (Err Counts)
+    (cond (list_entries x) (Err MatrixEntry)
+    (cond (list_floats x) (Err FloatRange) (Ok tt))))
 
 -- ---- the lists that are lent to sub-calls, of no entries past the limits, where 2 refuses
 
@@ -81,35 +81,23 @@ images_room n g = cond (too_many_sites n) 0 (cond (not_some g) 0 (g * n))
 
 -- ---- 5 to 12, by the verdicts of the sub-calls
 
--- of the candidates that are prepared, of C's invariant factors, of the aligned permutations and of the lattice
-pub record Told : Type 0 where
-  pub prepared : Verdict
-  pub factors : Verdict
-  pub aligned : Verdict
-  pub lattice : Verdict
-
-abbrev pub lesser : ℕ → ℕ → ℕ
-lesser a b = cond (ltb a b) a b
-
 -- the least of the rooms in listed sites
 abbrev pub least_room : Rooms → ℕ
 least_room r =
-    lesser r.positions
-    (lesser r.points
-    (lesser r.mapping
-    (lesser r.elements (lesser r.labels (lesser r.multiplicities r.letters)))))
+    min r.positions
+    (min r.points (min r.mapping (min r.elements (min r.labels (min r.multiplicities r.letters)))))
 
 -- for n sites, with a room in listed and one in primitive sites
 abbrev pub work_verdict : Matrix → Matrix → ℕ → ℕ → ℕ → Told → Verdict
 work_verdict t c n listed primitive s =
-    cond (refused_with site_image s.aligned) (Refused site_image)
-    (cond (refused_with coordinates s.prepared) (Refused coordinates)
-    (cond (not_unimodular t || bad_copies c) (Refused determinant)
-    (cond (refused_with diagonalisation s.factors || refused_with diagonalisation s.prepared) (Refused diagonalisation)
-    (cond (too_many_listed (n * copies c)) (Refused listed_sites)
-    (cond (shorter_than (n * copies c) listed || shorter_than n primitive) (Refused buffer)
-    (cond (refused_with target_rotation s.aligned) (Refused target_rotation)
-    (cond (refused_with lattice s.lattice) (Refused lattice) Accepted)))))))
+    cond (refused_with SiteImage s.aligned) (Err SiteImage)
+    (cond (refused_with Coordinates s.prepared) (Err Coordinates)
+    (cond (not_unimodular t || bad_copies c) (Err Determinant)
+    (cond (refused_with Diagonalisation s.factors || refused_with Diagonalisation s.prepared) (Err Diagonalisation)
+    (cond (too_many_listed (n * copies c)) (Err ListedSites)
+    (cond (shorter_than (n * copies c) listed || shorter_than n primitive) (Err Buffer)
+    (cond (refused_with TargetRotation s.aligned) (Err TargetRotation)
+    (cond (refused_with Lattice s.lattice) (Err Lattice) (Ok tt))))))))
 
 abbrev pub whole_verdict : Given → ℕ → ℕ → Told → Verdict
 whole_verdict x listed primitive s =
@@ -131,16 +119,17 @@ pub record Roomy (n listed : ℕ) (r : Rooms) : Type 0 where
 -- The symmetrised positions in a list, and their copies in four: the verdicts of the two calls are not looked at, past
 -- the refusals that are theirs.
 pub record CellListed
-    (t : Matrix) (shift : Position) (c : Matrix) (es : List ℤ) (ps : List (List Float)) (gs : List Matrix)
-    (vs : List (List Float)) (images : List ℕ) (old new : List (List Float)) (entry exit : ListingCells) : Type 0 where
+    (x : Given) (images : List ℕ) (old new : List (List Float)) (entry exit : ListingCells) : Type 0 where
   pub symmetrised : Verdict
-  pub positions : PositionsPromise t shift ps gs vs images old new symmetrised
+  pub positions :
+      PositionsPromise x.t x.shift x.positions x.rotations_of_targets x.translations_of_targets images old new symmetrised
+  pub shape : Three x.c
   pub pointed : Verdict
   pub none : List (List ℤ)
   pub found : List (List ℤ)
   pub room : length none ≡ most_copies
-  pub points : PointsPromise c none found pointed
-  pub listed : CopiesListed c (take (copies c) found) es (take (length ps) new) entry exit
+  pub points : PointsPromise x.c none found pointed
+  pub listed : CopiesListed x.c (take (copies x.c) found) x.elements (take (length x.positions) new) entry exit
 
 -- What the letters are read off besides the labels: listed positions, the listed basis, candidates with their spaces.
 pub record Fitting : Type 0 where
@@ -174,20 +163,20 @@ pub record OrbitsLettered (x : LabelArguments) (f : Fitting) (entry exit : Lette
   pub letters : Assigned (assigning f (length x.mapping) exit) entry.letters exit.letters whole
 
 -- what is told of it, with the number of listed sites
-abbrev pub told_by : Bool → ℕ → List ℕ → Standardized
+abbrev pub told_by : Bool → ℕ → List ℕ → Result AnswerCounts Refusal
 told_by whole listed labels =
-    cond whole (standardized.Accepted listed (length (orbits (take listed labels)))) (standardized.Refused orbit_fit)
+    cond whole (Ok (record { sites = listed; orbits = (length (orbits (take listed labels))) })) (Err OrbitFit)
 
 -- of so many listed sites
-abbrev pub Finished : ℕ → LabelArguments → Fitting → LetterCells → LetterCells → Standardized → Type 0
+abbrev pub Finished : ℕ → LabelArguments → Fitting → LetterCells → LetterCells → Result AnswerCounts Refusal → Type 0
 Finished listed x f entry exit r =
     (whole : Bool) × OrbitsLettered x f entry exit whole × (r ≡ told_by whole listed exit.labels)
 
 -- ---- the whole
 
 -- The promise of the call on lists but for what is cleared: after a refusal nothing is said of the lent lists.
-abbrev pub Uncleared : Given → AnswerCells → AnswerCells → Standardized → Type 0
+abbrev pub Uncleared : Given → AnswerCells → AnswerCells → Result AnswerCounts Refusal → Type 0
 Uncleared x entry exit r =
     (o : Outcome Answer)
     × Answered (lists_conditions x (rooms_of entry)) (IsAnswer (job_from x)) (HoldsAnswer entry exit) (Unit {0}) o
-    × (told_whole o ≡ r)
+    × (TellsOf answer_counts o r)

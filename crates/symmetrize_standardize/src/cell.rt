@@ -1,69 +1,49 @@
 // The conventional cell: the symmetrised positions of the primitive sites, and their copies.
-ghost use Rattle.std.specs.Prelude.{◌≤◌, length};
+ghost use Rattle.std.specs.Prelude.{◌≤◌, ◌≡◌, length};
+ghost use Rattle.definitions.specs.Calls.{PointsPromise};
 ghost use Rattle.definitions.specs.Limits as Limits;
+ghost use Rattle.definitions.specs.Refusal.{Verdict};
+ghost use Rattle.math_matrix.specs.Laws.{Three};
+ghost use Rattle.base_transformation.specs.Runs.{held, SameRooms, SameLists};
+ghost use Rattle.symmetrize_standardize.specs.Given.{given_by};
 ghost use Rattle.symmetrize_standardize.specs.Stages.{CellListed};
 
-use base_transformation::cell::list_copies;
+use crate::Job;
+use base_transformation::cell::{Listing, list_copies};
 use base_transformation::lattice_points;
 use checks::copies;
 use definitions::limits::MOST_COPIES;
-use definitions::{Cells, Linear, Point, Position, Rotation};
-use symmetrize_positions::symmetrize_positions;
+use definitions::{Cells, Linear, Point};
+use lent::Zero;
+use symmetrize_positions::{GivenTargets, symmetrize_positions};
+
+// C's points in a list, and how many there are: of its own, since that C is three rows of three is read off the type of
+// what comes by value.
+fn put_points(c: Linear, out: &mut [Point]) -> usize
+    ensures shape { Three c }
+    ensures count { result ≡ Limits.copies c }
+    ensures points { (v : Verdict) × PointsPromise c out.old out.new v }
+{
+    let _ = lattice_points(c, out);
+    copies(c)
+}
 
 // Past the refusals of the whole call neither call refuses: what they tell is not looked at.
-pub(crate) fn list_cell(
-    t: Linear,
-    shift: Position,
-    c: Linear,
-    elements: &[i32],
-    positions: &[Cells],
-    target_rotations: &[Rotation],
-    target_translations: &[Cells],
-    aligned: &[u8],
-    primitive: &mut [Cells],
-    out_positions: &mut [Cells],
-    out_points: &mut [Point],
-    mapping: &mut [u16],
-    out_elements: &mut [i32],
-)
-    requires { (Limits.copies c ≤ 64) × (length positions.now ≤ length primitive.old) }
-    ensures { CellListed t shift c elements.now positions.now target_rotations.now
-        target_translations.now aligned.now primitive.old primitive.new
-        (record {
-          positions = out_positions.old;
-          points = out_points.old;
-          mapping = mapping.old;
-          elements = out_elements.old;
-        })
-        (record {
-          positions = out_positions.new;
-          points = out_points.new;
-          mapping = mapping.new;
-          elements = out_elements.new;
-        }) }
+pub(crate) fn list_cell(job: &Job, aligned: &[u8], primitive: &mut [Cells], listing: &mut Listing)
+    requires { (Limits.copies job.now.c ≤ 64) × (length job.now.positions.now ≤ length primitive.old) }
+    ensures listed { CellListed (given_by job.now) aligned.now primitive.old primitive.new
+        (held listing.old) (held listing.new) }
+    ensures rooms { SameRooms (held listing.old) (held listing.new) }
+    ensures same_lists { SameLists listing.old listing.new }
 {
-    symmetrize_positions(
-        t,
-        shift,
-        positions,
-        target_rotations,
-        target_translations,
-        aligned,
-        primitive,
-    );
-    let mut points = [[0i64; 3]; MOST_COPIES];
-    lattice_points(c, &mut points);
-    let m = copies(c);
-    let n = positions.len();
-    let symmetrised = &primitive[..n];
-    list_copies(
-        c,
-        &points[..m],
-        elements,
-        symmetrised,
-        out_positions,
-        out_points,
-        mapping,
-        out_elements,
-    );
+    let targets = GivenTargets {
+        rotations: job.rotations_of_targets,
+        translations: job.translations_of_targets,
+        images: aligned,
+    };
+    let _ = symmetrize_positions(job.t, job.shift, job.positions, &targets, primitive);
+    let mut points = [Point::ZERO; MOST_COPIES];
+    let m = put_points(job.c, &mut points);
+    let symmetrised = &primitive[..job.positions.len()];
+    list_copies(job.c, &points[..m], job.elements, symmetrised, listing);
 }

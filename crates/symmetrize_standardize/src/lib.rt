@@ -6,661 +6,249 @@ mod cell;
 mod orbits;
 mod verdicts;
 
-ghost use Rattle.std.specs.Prelude.{◌*◌, ◌≤◌, ◌≡◌, length, take};
-ghost use Rattle.definitions.specs.Limits as Limits;
-ghost use Rattle.definitions.specs.WholeCalls.{HoldsAnswer, nothing_answered, ListsPromise};
-ghost use Rattle.symmetrize_standardize.specs.Stages.{Roomy, CellListed, Finished, images_room, Uncleared};
+ghost use Rattle.std.specs.Prelude.{◌*◌, ◌≤◌, ◌≡◌, length};
+ghost use Rattle.definitions.specs.WholeCalls.{HoldsAnswer, nothing_answered, ListsPromise, rooms_of};
+ghost use Rattle.base_cell.specs.Given.{orbit_cells, SameRooms, SameOrbits};
+ghost use Rattle.base_transformation.specs.Runs.{held};
+ghost use Rattle.data_wyckoff.specs.Spaces.{lists};
+ghost use Rattle.symmetrize_standardize.specs.Given.{given_by, answer_cells, SameAnswer};
+ghost use Rattle.symmetrize_standardize.specs.Given.{labelling_of, fitting_of};
+ghost use Rattle.symmetrize_wyckoff.specs.Given.{letter_cells};
+ghost use Rattle.symmetrize_standardize.specs.Stages.{Finished, least_room, images_room, Uncleared};
 
+use crate::verdicts::Told;
+use base_cell::Orbits;
+use base_cell::verdicts::Labelling;
+use base_transformation::cell::Listing;
 use base_transformation::invariant_factors;
 use checks::copies;
-use data_wyckoff::space::prepare_all;
+use data_wyckoff::space::{Spaces, prepare_all};
 use definitions::limits::{MOST_CANDIDATES, MOST_IMAGES};
 use definitions::{
-    Basis, Cells, Linear, Point, Position, Rotation, SnfMatrix, Standardized, Text, Verdict,
+    AnswerCounts, Basis, Cells, Linear, Point, Position, Refusal, Rotation, SnfMatrix, Text,
 };
 use lent::clear;
-use symmetrize_align::align_permutations;
-use symmetrize_lattice::symmetrize_lattice;
+use symmetrize_align::{Operations, align_permutations};
+use symmetrize_lattice::{NO_BASES, symmetrize_lattice};
+use symmetrize_wyckoff::arguments::Placed;
 
 // Most jobs have no more images, and do not pay for zeroing the others: of those given, in the call on bytes, and of
 // those aligned.
 pub const USUAL_IMAGES: usize = 1024;
 
-const NO_BASIS: Basis = [[0.0, 0.0, 0.0], [0.0, 0.0, 0.0], [0.0, 0.0, 0.0]];
+// A job, each list as it is lent.
+#[derive(Clone, Copy)]
+pub struct Job<'a> {
+    pub lattice: Basis,
+    pub t: Linear,
+    pub shift: Position,
+    pub c: Linear,
+    pub elements: &'a [i32],
+    pub positions: &'a [Cells],
+    pub rotations: &'a [Rotation],
+    pub translations: &'a [Cells],
+    pub images: &'a [u8],
+    pub rotations_of_targets: &'a [Rotation],
+    pub translations_of_targets: &'a [Cells],
+    pub conventional: &'a [Rotation],
+    pub multiplicities: &'a [u16],
+    pub letters: &'a [u8],
+    pub texts: &'a [Text],
+    pub symprec: f64,
+}
 
-const NO_ROTATION: Rotation = [[0, 0, 0], [0, 0, 0], [0, 0, 0]];
+// What is lent for the answer.
+#[derive(Drop)]
+pub struct Answer<'a> {
+    pub positions: &'a mut [Cells],
+    pub points: &'a mut [Point],
+    pub mapping: &'a mut [u16],
+    pub elements: &'a mut [i32],
+    pub labels: &'a mut [u16],
+    pub multiplicities: &'a mut [u16],
+    pub letters: &'a mut [u8],
+    pub primitive: &'a mut [Cells],
+    pub primitive_cell_basis: &'a mut Basis,
+    pub listed_cell_basis: &'a mut Basis,
+    pub factors: &'a mut [i16; 3],
+}
 
-const NO_MATRIX: SnfMatrix = [[0, 0, 0], [0, 0, 0], [0, 0, 0]];
+impl Answer<'_> {
+    // What every refusal leaves, here and in the call on bytes.
+    pub fn clear(&mut self)
+        ensures cleared { HoldsAnswer (answer_cells self.old) (answer_cells self.new) nothing_answered }
+        ensures same_lists { SameAnswer self.old self.new }
+    {
+        clear(self.positions, 0);
+        clear(self.points, 0);
+        clear(self.mapping, 0);
+        clear(self.elements, 0);
+        clear(self.labels, 0);
+        clear(self.multiplicities, 0);
+        clear(self.letters, 0);
+        clear(self.primitive, 0);
+        *self.primitive_cell_basis = [[0.0; 3]; 3];
+        *self.listed_cell_basis = [[0.0; 3]; 3];
+        *self.factors = [0, 0, 0];
+    }
 
-const NO_CELLS: Cells = [0.0, 0.0, 0.0];
+    // What there is room for in each of the lists with an entry a listed site.
+    fn least_room(&self) -> usize
+        ensures { result ≡ least_room (rooms_of (answer_cells self.now)) }
+    {
+        let of_orbits = self
+            .labels
+            .len()
+            .min(self.multiplicities.len().min(self.letters.len()));
+        let of_sites = self.mapping.len().min(self.elements.len().min(of_orbits));
+        self.positions.len().min(self.points.len().min(of_sites))
+    }
+}
 
-// The work past 12: an answer, or 13.
-fn finish(
-    t: Linear,
-    shift: Position,
-    c: Linear,
-    elements: &[i32],
-    positions: &[Cells],
-    aligned: &[u8],
-    target_rotations: &[Rotation],
-    target_translations: &[Cells],
-    basis: Basis,
-    candidates: &[u16],
-    candidate_letters: &[u8],
-    matrices: &[Rotation],
-    shifts: &[Cells],
-    ds: &[SnfMatrix],
-    ls: &[SnfMatrix],
-    rs: &[SnfMatrix],
-    symprec: f64,
-    out_positions: &mut [Cells],
-    out_points: &mut [Point],
-    mapping: &mut [u16],
-    out_elements: &mut [i32],
-    labels: &mut [u16],
-    multiplicities: &mut [u16],
+// What the letters are read off beside the listing, which holds so many sites, and the candidates' spaces: the aligned
+// images, the listed basis and the candidates.
+#[derive(Clone, Copy)]
+pub(crate) struct Work<'a> {
+    pub(crate) sites: usize,
+    pub(crate) count: usize,
+    pub(crate) aligned: &'a [u8],
+    pub(crate) listed: usize,
+    pub(crate) basis: Basis,
+    pub(crate) symprec: f64,
+    pub(crate) multiplicities: &'a [u16],
+    pub(crate) letters: &'a [u8],
+}
+
+// The letters of the listed sites: an answer, or 13.
+fn letter(
+    work: &Work,
+    spaces: &Spaces,
+    listing: &Listing,
+    orbits: &mut Orbits,
     letters: &mut [u8],
-    primitive: &mut [Cells],
-) -> Standardized
-    requires { (Limits.copies c ≤ 64) × (length positions.now ≤ 256)
-        × Roomy (length positions.now) (length positions.now * Limits.copies c)
-        (record {
-          positions = length out_positions.old;
-          points = length out_points.old;
-          mapping = length mapping.old;
-          elements = length out_elements.old;
-          labels = length labels.old;
-          multiplicities = length multiplicities.old;
-          letters = length letters.old;
-          primitive = length primitive.old;
-        }) }
-    ensures cell { CellListed t shift c elements.now positions.now target_rotations.now
-        target_translations.now aligned.now primitive.old primitive.new
-        (record {
-          positions = out_positions.old;
-          points = out_points.old;
-          mapping = mapping.old;
-          elements = out_elements.old;
-        })
-        (record {
-          positions = out_positions.new;
-          points = out_points.new;
-          mapping = mapping.new;
-          elements = out_elements.new;
-        }) }
-    ensures orbits { Finished (length positions.now * Limits.copies c)
-        (record {
-          sites = length positions.now;
-          count = length target_rotations.now;
-          images = aligned.now;
-          mapping = take (length positions.now * Limits.copies c) mapping.new;
-        })
-        (record {
-          positions = take (length positions.now * Limits.copies c) out_positions.new;
-          basis = basis;
-          symprec = symprec;
-          candidates = candidates.now;
-          letters = candidate_letters.now;
-          spaces =
-              record {
-                matrices = matrices.now;
-                shifts = shifts.now;
-                ds = ds.now;
-                ls = ls.now;
-                rs = rs.now;
-              };
-        })
-        (record {
-          labels = labels.old;
-          multiplicities = multiplicities.old;
-          letters = letters.old;
-        })
-        (record {
-          labels = labels.new;
-          multiplicities = multiplicities.new;
-          letters = letters.new;
-        }) result }
+) -> Result<AnswerCounts, Refusal>
+    requires { (work.now.listed ≤ length listing.now.positions.now) × (work.now.listed ≤ length listing.now.mapping.now)
+        × (work.now.listed ≤ length orbits.old.labels.now) × (work.now.listed ≤ length orbits.old.multiplicities.now) }
+    ensures lettered { Finished work.now.listed
+        (labelling_of work.now (held listing.now)) (fitting_of work.now (lists spaces.now) (held listing.now))
+        (letter_cells (orbit_cells orbits.old) letters.old) (letter_cells (orbit_cells orbits.new) letters.new) result }
+    ensures rooms { SameRooms (orbit_cells orbits.old) (orbit_cells orbits.new) }
+    ensures same_orbits { SameOrbits orbits.old orbits.new }
 {
-    cell::list_cell(
-        t,
-        shift,
-        c,
-        elements,
-        positions,
-        target_rotations,
-        target_translations,
-        aligned,
-        primitive,
-        out_positions,
-        out_points,
-        mapping,
-        out_elements,
-    );
-    let n = positions.len();
-    let count = target_rotations.len();
-    let listed = n * copies(c);
-    let whole = orbits::label_and_letter(
-        n,
-        count,
-        aligned,
-        &mapping[..listed],
-        &out_positions[..listed],
-        basis,
-        symprec,
-        candidates,
-        candidate_letters,
-        matrices,
-        shifts,
-        ds,
-        ls,
-        rs,
-        labels,
-        multiplicities,
-        letters,
-    );
-    orbits::told(whole, listed, &labels[..listed])
+    let labelling = Labelling {
+        sites: work.sites,
+        count: work.count,
+        images: work.aligned,
+        mapping: &listing.mapping[..work.listed],
+    };
+    let placed = Placed {
+        positions: &listing.positions[..work.listed],
+        basis: work.basis,
+        symprec: work.symprec,
+        candidates: work.multiplicities,
+        letters: work.letters,
+        matrices: spaces.matrices,
+        shifts: spaces.shifts,
+        ds: spaces.ds,
+        ls: spaces.ls,
+        rs: spaces.rs,
+    };
+    orbits::label_and_letter(&labelling, &placed, orbits, letters)?;
+    Ok(AnswerCounts {
+        sites: work.listed,
+        orbits: orbits::orbits_of(work.listed, orbits),
+    })
 }
 
 // The sub-calls on what was given, the verdict of the whole before 13, and the work where it accepts. After a refusal
 // the lent lists are left as they come. The caller has the room for the aligned images.
-fn answer(
-    lattice: Basis,
-    t: Linear,
-    shift: Position,
-    c: Linear,
-    elements: &[i32],
-    positions: &[Cells],
-    rotations: &[Rotation],
-    translations: &[Cells],
-    images: &[u8],
-    target_rotations: &[Rotation],
-    target_translations: &[Cells],
-    conventional: &[Rotation],
-    candidates: &[u16],
-    candidate_letters: &[u8],
-    texts: &[Text],
-    symprec: f64,
-    aligned: &mut [u8],
-    out_positions: &mut [Cells],
-    out_points: &mut [Point],
-    mapping: &mut [u16],
-    out_elements: &mut [i32],
-    labels: &mut [u16],
-    multiplicities: &mut [u16],
-    letters: &mut [u8],
-    primitive: &mut [Cells],
-    primitive_basis: &mut Basis,
-    listed_basis: &mut Basis,
-    factors: &mut [i16; 3],
-) -> Standardized
-    requires { length aligned.old ≡ images_room (length positions.now) (length target_rotations.now) }
-    ensures { Uncleared
-        (record {
-          lattice = lattice;
-          t = t;
-          shift = shift;
-          c = c;
-          elements = elements.now;
-          positions = positions.now;
-          rotations = rotations.now;
-          translations = translations.now;
-          images = images.now;
-          rotations_of_targets = target_rotations.now;
-          translations_of_targets = target_translations.now;
-          conventional = conventional.now;
-          multiplicities = candidates.now;
-          letters = candidate_letters.now;
-          texts = texts.now;
-          symprec = symprec;
-        })
-        (record {
-          positions = out_positions.old;
-          points = out_points.old;
-          mapping = mapping.old;
-          elements = out_elements.old;
-          labels = labels.old;
-          multiplicities = multiplicities.old;
-          letters = letters.old;
-          primitive = primitive.old;
-          primitive_cell_basis = primitive_basis.old;
-          listed_cell_basis = listed_basis.old;
-          factors = factors.old;
-        })
-        (record {
-          positions = out_positions.new;
-          points = out_points.new;
-          mapping = mapping.new;
-          elements = out_elements.new;
-          labels = labels.new;
-          multiplicities = multiplicities.new;
-          letters = letters.new;
-          primitive = primitive.new;
-          primitive_cell_basis = primitive_basis.new;
-          listed_cell_basis = listed_basis.new;
-          factors = factors.new;
-        }) result }
+fn answer_with(job: &Job, aligned: &mut [u8], answer: &mut Answer) -> Result<AnswerCounts, Refusal>
+    requires { length aligned.old
+        ≡ images_room (length job.now.positions.now) (length job.now.rotations_of_targets.now) }
+    ensures uncleared { Uncleared (given_by job.now) (answer_cells answer.old) (answer_cells answer.new) result }
+    ensures rooms { rooms_of (answer_cells answer.new) ≡ rooms_of (answer_cells answer.old) }
+    ensures same_lists { SameAnswer answer.old answer.new }
 {
-    let mut matrices = [NO_ROTATION; MOST_CANDIDATES];
-    let mut shifts = [NO_CELLS; MOST_CANDIDATES];
-    let mut ds = [NO_MATRIX; MOST_CANDIDATES];
-    let mut ls = [NO_MATRIX; MOST_CANDIDATES];
-    let mut rs = [NO_MATRIX; MOST_CANDIDATES];
-    let w = verdicts::candidates_room(texts.len());
-    let prepared = prepare_all(
-        texts,
-        &mut matrices[..w],
-        &mut shifts[..w],
-        &mut ds[..w],
-        &mut ls[..w],
-        &mut rs[..w],
-    );
-    let found = align_permutations(
-        t,
-        rotations,
-        images,
-        positions.len(),
-        target_rotations,
-        aligned,
-    );
-    let mut new = NO_BASIS;
-    let deformed = symmetrize_lattice(
-        lattice,
-        t,
-        c,
-        conventional,
-        &mut new,
-        primitive_basis,
-        listed_basis,
-    );
-    let diagonalised = invariant_factors(c, factors);
-    let room = verdicts::least_room(
-        out_positions.len(),
-        out_points.len(),
-        mapping.len(),
-        out_elements.len(),
-        labels.len(),
-        multiplicities.len(),
-        letters.len(),
-    );
-    let v = verdicts::whole_verdict(
-        lattice,
-        t,
-        shift,
-        c,
-        elements,
-        positions,
-        rotations,
-        translations,
-        images,
-        target_rotations,
-        target_translations,
-        conventional,
-        candidates,
-        candidate_letters,
-        texts,
-        symprec,
-        room,
-        primitive.len(),
+    let mut matrices = [[[0; 3]; 3]; MOST_CANDIDATES];
+    let mut shifts = [[0.0; 3]; MOST_CANDIDATES];
+    let mut ds = [[[0; 3]; 3]; MOST_CANDIDATES];
+    let mut ls = [[[0; 3]; 3]; MOST_CANDIDATES];
+    let mut rs = [[[0; 3]; 3]; MOST_CANDIDATES];
+    let w = verdicts::candidates_room(job.texts.len());
+    let mut spaces = Spaces {
+        matrices: &mut matrices[..w],
+        shifts: &mut shifts[..w],
+        ds: &mut ds[..w],
+        ls: &mut ls[..w],
+        rs: &mut rs[..w],
+    };
+    let prepared = prepare_all(job.texts, &mut spaces);
+    let operations = Operations {
+        rotations: job.rotations,
+        images: job.images,
+        sites: job.positions.len(),
+    };
+    let found = align_permutations(job.t, &operations, job.rotations_of_targets, aligned);
+    let mut bases = NO_BASES;
+    let deformed = symmetrize_lattice(job.lattice, job.t, job.c, job.conventional, &mut bases);
+    *answer.primitive_cell_basis = bases.primitive;
+    *answer.listed_cell_basis = bases.listed;
+    let diagonalised = invariant_factors(job.c, answer.factors);
+    let told = Told {
         prepared,
-        diagonalised,
-        found,
-        deformed,
-    );
-    match v {
-        Verdict::Refused(k) => Standardized::Refused(k),
-        Verdict::Accepted => {
-            let basis = *listed_basis;
-            finish(
-                t,
-                shift,
-                c,
-                elements,
-                positions,
-                aligned,
-                target_rotations,
-                target_translations,
-                basis,
-                candidates,
-                candidate_letters,
-                &matrices[..w],
-                &shifts[..w],
-                &ds[..w],
-                &ls[..w],
-                &rs[..w],
-                symprec,
-                out_positions,
-                out_points,
-                mapping,
-                out_elements,
-                labels,
-                multiplicities,
-                letters,
-                primitive,
-            )
-        }
-    }
+        factors: diagonalised,
+        aligned: found,
+        lattice: deformed,
+    };
+    job.whole_verdict(answer.least_room(), answer.primitive.len(), &told)?;
+    let mut listing = Listing {
+        positions: answer.positions,
+        points: answer.points,
+        mapping: answer.mapping,
+        elements: answer.elements,
+    };
+    cell::list_cell(job, aligned, answer.primitive, &mut listing);
+    let sites = job.positions.len();
+    let work = Work {
+        sites,
+        count: job.rotations_of_targets.len(),
+        aligned,
+        listed: sites * copies(job.c),
+        basis: bases.listed,
+        symprec: job.symprec,
+        multiplicities: job.multiplicities,
+        letters: job.letters,
+    };
+    let mut orbits = Orbits {
+        labels: answer.labels,
+        multiplicities: answer.multiplicities,
+    };
+    letter(&work, &spaces, &listing, &mut orbits, answer.letters)
 }
 
 // The same over a local list for the aligned images, short where they are few, of which only the front is lent.
-fn answer_with_room(
-    lattice: Basis,
-    t: Linear,
-    shift: Position,
-    c: Linear,
-    elements: &[i32],
-    positions: &[Cells],
-    rotations: &[Rotation],
-    translations: &[Cells],
-    images: &[u8],
-    target_rotations: &[Rotation],
-    target_translations: &[Cells],
-    conventional: &[Rotation],
-    candidates: &[u16],
-    candidate_letters: &[u8],
-    texts: &[Text],
-    symprec: f64,
-    out_positions: &mut [Cells],
-    out_points: &mut [Point],
-    mapping: &mut [u16],
-    out_elements: &mut [i32],
-    labels: &mut [u16],
-    multiplicities: &mut [u16],
-    letters: &mut [u8],
-    primitive: &mut [Cells],
-    primitive_basis: &mut Basis,
-    listed_basis: &mut Basis,
-    factors: &mut [i16; 3],
-) -> Standardized
-    ensures { Uncleared
-        (record {
-          lattice = lattice;
-          t = t;
-          shift = shift;
-          c = c;
-          elements = elements.now;
-          positions = positions.now;
-          rotations = rotations.now;
-          translations = translations.now;
-          images = images.now;
-          rotations_of_targets = target_rotations.now;
-          translations_of_targets = target_translations.now;
-          conventional = conventional.now;
-          multiplicities = candidates.now;
-          letters = candidate_letters.now;
-          texts = texts.now;
-          symprec = symprec;
-        })
-        (record {
-          positions = out_positions.old;
-          points = out_points.old;
-          mapping = mapping.old;
-          elements = out_elements.old;
-          labels = labels.old;
-          multiplicities = multiplicities.old;
-          letters = letters.old;
-          primitive = primitive.old;
-          primitive_cell_basis = primitive_basis.old;
-          listed_cell_basis = listed_basis.old;
-          factors = factors.old;
-        })
-        (record {
-          positions = out_positions.new;
-          points = out_points.new;
-          mapping = mapping.new;
-          elements = out_elements.new;
-          labels = labels.new;
-          multiplicities = multiplicities.new;
-          letters = letters.new;
-          primitive = primitive.new;
-          primitive_cell_basis = primitive_basis.new;
-          listed_cell_basis = listed_basis.new;
-          factors = factors.new;
-        }) result }
+fn answer_with_room(job: &Job, answer: &mut Answer) -> Result<AnswerCounts, Refusal>
+    ensures uncleared { Uncleared (given_by job.now) (answer_cells answer.old) (answer_cells answer.new) result }
+    ensures rooms { rooms_of (answer_cells answer.new) ≡ rooms_of (answer_cells answer.old) }
+    ensures same_lists { SameAnswer answer.old answer.new }
 {
-    let entries = verdicts::images_room(positions.len(), target_rotations.len());
+    let entries = verdicts::images_room(job.positions.len(), job.rotations_of_targets.len());
     if entries <= USUAL_IMAGES {
         let mut aligned = [0u8; USUAL_IMAGES];
-        return answer(
-            lattice,
-            t,
-            shift,
-            c,
-            elements,
-            positions,
-            rotations,
-            translations,
-            images,
-            target_rotations,
-            target_translations,
-            conventional,
-            candidates,
-            candidate_letters,
-            texts,
-            symprec,
-            &mut aligned[..entries],
-            out_positions,
-            out_points,
-            mapping,
-            out_elements,
-            labels,
-            multiplicities,
-            letters,
-            primitive,
-            primitive_basis,
-            listed_basis,
-            factors,
-        );
+        return answer_with(job, &mut aligned[..entries], answer);
     }
     let mut aligned = [0u8; MOST_IMAGES];
-    answer(
-        lattice,
-        t,
-        shift,
-        c,
-        elements,
-        positions,
-        rotations,
-        translations,
-        images,
-        target_rotations,
-        target_translations,
-        conventional,
-        candidates,
-        candidate_letters,
-        texts,
-        symprec,
-        &mut aligned[..entries],
-        out_positions,
-        out_points,
-        mapping,
-        out_elements,
-        labels,
-        multiplicities,
-        letters,
-        primitive,
-        primitive_basis,
-        listed_basis,
-        factors,
-    )
-}
-
-// What every refusal leaves, here and in the call on bytes.
-pub fn clear_answer(
-    out_positions: &mut [Cells],
-    out_points: &mut [Point],
-    mapping: &mut [u16],
-    out_elements: &mut [i32],
-    labels: &mut [u16],
-    multiplicities: &mut [u16],
-    letters: &mut [u8],
-    primitive: &mut [Cells],
-    primitive_basis: &mut Basis,
-    listed_basis: &mut Basis,
-    factors: &mut [i16; 3],
-)
-    ensures { HoldsAnswer
-        (record {
-          positions = out_positions.old;
-          points = out_points.old;
-          mapping = mapping.old;
-          elements = out_elements.old;
-          labels = labels.old;
-          multiplicities = multiplicities.old;
-          letters = letters.old;
-          primitive = primitive.old;
-          primitive_cell_basis = primitive_basis.old;
-          listed_cell_basis = listed_basis.old;
-          factors = factors.old;
-        })
-        (record {
-          positions = out_positions.new;
-          points = out_points.new;
-          mapping = mapping.new;
-          elements = out_elements.new;
-          labels = labels.new;
-          multiplicities = multiplicities.new;
-          letters = letters.new;
-          primitive = primitive.new;
-          primitive_cell_basis = primitive_basis.new;
-          listed_cell_basis = listed_basis.new;
-          factors = factors.new;
-        }) nothing_answered }
-{
-    clear(out_positions, 0);
-    clear(out_points, 0);
-    clear(mapping, 0);
-    clear(out_elements, 0);
-    clear(labels, 0);
-    clear(multiplicities, 0);
-    clear(letters, 0);
-    clear(primitive, 0);
-    *primitive_basis = NO_BASIS;
-    *listed_basis = NO_BASIS;
-    *factors = [0, 0, 0];
+    answer_with(job, &mut aligned[..entries], answer)
 }
 
 // A job's standard cell with its listed sites, their labels and their letters; all zero after a refusal.
-pub fn standardize(
-    lattice: Basis,
-    t: Linear,
-    shift: Position,
-    c: Linear,
-    elements: &[i32],
-    positions: &[Cells],
-    rotations: &[Rotation],
-    translations: &[Cells],
-    images: &[u8],
-    target_rotations: &[Rotation],
-    target_translations: &[Cells],
-    conventional: &[Rotation],
-    candidates: &[u16],
-    candidate_letters: &[u8],
-    texts: &[Text],
-    symprec: f64,
-    out_positions: &mut [Cells],
-    out_points: &mut [Point],
-    mapping: &mut [u16],
-    out_elements: &mut [i32],
-    labels: &mut [u16],
-    multiplicities: &mut [u16],
-    letters: &mut [u8],
-    primitive: &mut [Cells],
-    primitive_basis: &mut Basis,
-    listed_basis: &mut Basis,
-    factors: &mut [i16; 3],
-) -> Standardized
-    ensures { ListsPromise
-        (record {
-          lattice = lattice;
-          t = t;
-          shift = shift;
-          c = c;
-          elements = elements.now;
-          positions = positions.now;
-          rotations = rotations.now;
-          translations = translations.now;
-          images = images.now;
-          rotations_of_targets = target_rotations.now;
-          translations_of_targets = target_translations.now;
-          conventional = conventional.now;
-          multiplicities = candidates.now;
-          letters = candidate_letters.now;
-          texts = texts.now;
-          symprec = symprec;
-        })
-        (record {
-          positions = out_positions.old;
-          points = out_points.old;
-          mapping = mapping.old;
-          elements = out_elements.old;
-          labels = labels.old;
-          multiplicities = multiplicities.old;
-          letters = letters.old;
-          primitive = primitive.old;
-          primitive_cell_basis = primitive_basis.old;
-          listed_cell_basis = listed_basis.old;
-          factors = factors.old;
-        })
-        (record {
-          positions = out_positions.new;
-          points = out_points.new;
-          mapping = mapping.new;
-          elements = out_elements.new;
-          labels = labels.new;
-          multiplicities = multiplicities.new;
-          letters = letters.new;
-          primitive = primitive.new;
-          primitive_cell_basis = primitive_basis.new;
-          listed_cell_basis = listed_basis.new;
-          factors = factors.new;
-        }) result }
+pub fn standardize(job: &Job, answer: &mut Answer) -> Result<AnswerCounts, Refusal>
+    ensures standardized { ListsPromise (given_by job.now) (answer_cells answer.old) (answer_cells answer.new) result }
+    ensures same_lists { SameAnswer answer.old answer.new }
 {
-    let r = answer_with_room(
-        lattice,
-        t,
-        shift,
-        c,
-        elements,
-        positions,
-        rotations,
-        translations,
-        images,
-        target_rotations,
-        target_translations,
-        conventional,
-        candidates,
-        candidate_letters,
-        texts,
-        symprec,
-        out_positions,
-        out_points,
-        mapping,
-        out_elements,
-        labels,
-        multiplicities,
-        letters,
-        primitive,
-        primitive_basis,
-        listed_basis,
-        factors,
-    );
-    match r {
-        Standardized::Accepted(_, _) => {}
-        Standardized::Refused(_) => {
-            clear_answer(
-                out_positions,
-                out_points,
-                mapping,
-                out_elements,
-                labels,
-                multiplicities,
-                letters,
-                primitive,
-                primitive_basis,
-                listed_basis,
-                factors,
-            );
-        }
+    let counts = answer_with_room(job, answer);
+    if counts.is_err() {
+        answer.clear();
     }
-    r
+    counts
 }

@@ -1,12 +1,18 @@
 // The orbits of the listed sites: their labels, their letters and how many there are.
-ghost use Rattle.std.specs.Prelude.{◌≤◌, ◌≡◌, cond, eqb, length};
-ghost use Rattle.definitions.specs.declared.Standardized.TheVariants as standardized;
+ghost use Rattle.std.specs.Prelude.{◌≤◌, ◌≡◌, cond, eqb, length, take, is_ok, IfErr};
+ghost use Rattle.definitions.specs.declared.Refusal.TheVariants.{OrbitFit};
 ghost use Rattle.definitions.specs.Orbit.{orbits};
-ghost use Rattle.definitions.specs.Refusal.{orbit_fit};
+ghost use Rattle.definitions.specs.SiteCalls.{Assigned};
+ghost use Rattle.base_cell.specs.Given.{arguments_of, orbit_cells, SameRooms, SameOrbits};
+ghost use Rattle.symmetrize_standardize.specs.Given.{fitting};
+ghost use Rattle.symmetrize_wyckoff.specs.Given.{placed_of, letter_cells};
+ghost use Rattle.symmetrize_wyckoff.specs.Lettering.{assign_with};
 ghost use Rattle.symmetrize_standardize.specs.Stages.{OrbitsLettered};
 
-use base_cell::label_orbits;
-use definitions::{Basis, Cells, Rotation, SnfMatrix, Standardized, refusal};
+use base_cell::verdicts::Labelling;
+use base_cell::{Orbits, label_orbits};
+use definitions::Verdict;
+use symmetrize_wyckoff::arguments::Placed;
 use symmetrize_wyckoff::assign_wyckoffs_by_orbit;
 
 // 1 where the site j is its own label
@@ -27,84 +33,46 @@ fn count_orbits(labels: &[u16]) -> usize
     count
 }
 
-// moyo's `assign_wyckoffs_by_orbit` over labels just given. Aligned images are permutations: the step that labels does
-// not test them.
-pub(crate) fn label_and_letter(
-    sites: usize,
-    count: usize,
-    aligned: &[u8],
-    mapping: &[u16],
-    positions: &[Cells],
-    basis: Basis,
-    symprec: f64,
-    candidates: &[u16],
-    candidate_letters: &[u8],
-    matrices: &[Rotation],
-    shifts: &[Cells],
-    ds: &[SnfMatrix],
-    ls: &[SnfMatrix],
-    rs: &[SnfMatrix],
-    labels: &mut [u16],
-    multiplicities: &mut [u16],
-    letters: &mut [u8],
-) -> bool
-    requires { (length mapping.now ≤ length labels.old) × (length mapping.now ≤ length multiplicities.old) }
-    ensures { OrbitsLettered
-        (record { sites = sites; count = count; images = aligned.now; mapping = mapping.now })
-        (record {
-          positions = positions.now;
-          basis = basis;
-          symprec = symprec;
-          candidates = candidates.now;
-          letters = candidate_letters.now;
-          spaces =
-              record {
-                matrices = matrices.now;
-                shifts = shifts.now;
-                ds = ds.now;
-                ls = ls.now;
-                rs = rs.now;
-              };
-        })
-        (record {
-          labels = labels.old;
-          multiplicities = multiplicities.old;
-          letters = letters.old;
-        })
-        (record {
-          labels = labels.new;
-          multiplicities = multiplicities.new;
-          letters = letters.new;
-        }) result }
+// The orbits of the first n sites.
+pub(crate) fn orbits_of(n: usize, lists: &Orbits) -> usize
+    requires { n ≤ length lists.now.labels.now }
+    ensures { result ≡ length (orbits (take n lists.now.labels.now)) }
 {
-    label_orbits(sites, count, aligned, mapping, labels, multiplicities);
-    let n = mapping.len();
-    let counted = &multiplicities[..n];
+    count_orbits(&lists.labels[..n])
+}
+
+// moyo's `assign_wyckoffs_by_orbit` over labels just given: apart, since the lists are only read here.
+fn assign(n: usize, placed: &Placed, orbits: &Orbits, letters: &mut [u8]) -> Verdict
+    requires { (n ≤ length orbits.now.labels.now) × (n ≤ length orbits.now.multiplicities.now) }
+    ensures assigned { Assigned
+        (assign_with (placed_of placed.now) (take n orbits.now.labels.now) (take n orbits.now.multiplicities.now))
+        letters.old letters.new (is_ok result) }
+    ensures refusal { IfErr result (λ r. r ≡ OrbitFit) }
+{
     assign_wyckoffs_by_orbit(
-        &labels[..n],
-        counted,
-        positions,
-        basis,
-        symprec,
-        candidates,
-        candidate_letters,
-        matrices,
-        shifts,
-        ds,
-        ls,
-        rs,
+        &orbits.labels[..n],
+        &orbits.multiplicities[..n],
+        placed,
         letters,
     )
 }
 
-// An answer's counts, or 13.
-pub(crate) fn told(whole: bool, listed: usize, labels: &[u16]) -> Standardized
-    ensures { result ≡ cond whole (standardized.Accepted listed (length (orbits labels.now)))
-        (standardized.Refused orbit_fit) }
+// Aligned images are permutations: the step that labels does not test them.
+pub(crate) fn label_and_letter(
+    labelling: &Labelling,
+    placed: &Placed,
+    orbits: &mut Orbits,
+    letters: &mut [u8],
+) -> Verdict
+    requires { (length labelling.now.mapping.now ≤ length orbits.old.labels.now)
+        × (length labelling.now.mapping.now ≤ length orbits.old.multiplicities.now) }
+    ensures lettered { OrbitsLettered (arguments_of labelling.now) (fitting placed.now)
+        (letter_cells (orbit_cells orbits.old) letters.old)
+        (letter_cells (orbit_cells orbits.new) letters.new) (is_ok result) }
+    ensures refusal { IfErr result (λ r. r ≡ OrbitFit) }
+    ensures rooms { SameRooms (orbit_cells orbits.old) (orbit_cells orbits.new) }
+    ensures same_lists { SameOrbits orbits.old orbits.new }
 {
-    let n = count_orbits(labels);
-    if whole {
-        return Standardized::Accepted(listed, n);
-    }
-    Standardized::Refused(refusal::ORBIT_FIT)
+    label_orbits(labelling, orbits);
+    assign(labelling.mapping.len(), placed, orbits, letters)
 }

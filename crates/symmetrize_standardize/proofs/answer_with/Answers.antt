@@ -1,0 +1,209 @@
+-- `answer_with`: the verdict by the sub-calls' promises, and the promise of the whole by what the work left.
+use Prim.Native.Nat.{ℕ, ◌*◌, ◌≤◌}
+use mathlib.Core.Path.{◌≡◌, refl, sym, ap, subst, ◌∙◌}
+use mathlib.Core.List.{List, [], ◌∷◌}
+use native.Mathlib.Omega.{arith}
+use lib.ListN.{length, take, replicate}
+use lib.Seq.{length-take-le, take_all}
+use Rattle.std.specs.Prelude.{Ok}
+use Rattle.definitions.specs.Refusal.{Verdict}
+use Rattle.definitions.specs.Lent.{zero_cells, zero_matrix}
+use Rattle.definitions.specs.Limits.{copies}
+use Rattle.definitions.specs.SiteCalls.{SpaceCells, space_rooms}
+use Rattle.definitions.specs.WholeCalls.{Given, AnswerCells, rooms_of}
+use Rattle.laws.specs.Verdicts.{Passed, passed_on}
+use borrow.Author.Rules.{rules}
+use Rattle.data_wyckoff.specs.Spaces.{lists}
+use Rattle.base_transformation.specs.Runs.{held}
+use Rattle.base_cell.specs.Given.{orbit_cells}
+use Rattle.symmetrize_wyckoff.specs.Given.{letter_cells}
+use Rattle.symmetrize_standardize.specs.declared.verdicts.Told.{Told}
+use Rattle.symmetrize_standardize.specs.Given.{given_by, answer_cells}
+use Rattle.symmetrize_standardize.specs.Stages.{Uncleared, least_room, whole_verdict}
+use Rattle.symmetrize_standardize.proofs.General.{Until}
+use Rattle.symmetrize_standardize.proofs.Ladder.{conditions, table_rooms, few_candidates, Right, whole_until}
+use Rattle.symmetrize_standardize.proofs.Parts.{listed-word, fits_kept}
+use Rattle.symmetrize_standardize.proofs.Choices.{fronts}
+use Rattle.symmetrize_standardize.proofs.Past.{known_copies, known_sites, known_entries, known_candidates, known_roomy}
+use Rattle.symmetrize_standardize.proofs.Assembled.{right_of, refused_uncleared, finished_by, answered, given_back}
+use Rattle.symmetrize_standardize.proofs.answer_with.Goals as goal
+use Rattle.symmetrize_standardize.proofs.answer_with.Goals.{After-whole_verdict}
+
+-- ---- what was given and lent
+
+abbrev given : After-whole_verdict → Given
+given w = given_by w.args.job.now
+
+abbrev lent : After-whole_verdict → AnswerCells
+lent w = answer_cells w.args.answer.now
+
+-- ---- the sub-calls before the verdict
+
+-- the fronts of the tables that are lent
+few : (w : After-whole_verdict) → w.candidates_room-w.result ≤ 64
+few w = subst (λ n. n ≤ 64) (sym w.candidates_room-w.ensures) (few_candidates (length w.args.job.now.texts.now))
+
+-- the tables and the images as they are lent, and as they come back
+abbrev no_spaces : After-whole_verdict → SpaceCells
+no_spaces w =
+    let k = w.candidates_room-w.result in
+    record {
+      matrices = take k (replicate 64 zero_matrix);
+      shifts = take k (replicate 64 zero_cells);
+      ds = take k (replicate 64 zero_matrix);
+      ls = take k (replicate 64 zero_matrix);
+      rs = take k (replicate 64 zero_matrix);
+    }
+
+abbrev spaces : After-whole_verdict → SpaceCells
+spaces w = lists w.prepare_all-prepared.new.spaces
+
+abbrev images : After-whole_verdict → List ℕ
+images w = w.align_permutations-found.new.out
+
+table_rooms_lem : (w : After-whole_verdict) → space_rooms (no_spaces w) ≡ table_rooms (given w)
+table_rooms_lem w =
+    let e = w.candidates_room-w.ensures in
+    let m = length-take-le _ (replicate 64 zero_matrix) (few w) ∙ e in
+    let s = length-take-le _ (replicate 64 zero_cells) (few w) ∙ e in
+    λ i. m i ∷ s i ∷ m i ∷ m i ∷ m i ∷ []
+
+abbrev told : After-whole_verdict → Told
+told w =
+    record {
+      prepared = w.prepare_all-prepared.result;
+      factors = w.invariant_factors-diagonalised.result;
+      aligned = w.align_permutations-found.result;
+      lattice = w.symmetrize_lattice-deformed.result;
+    }
+
+right : (w : After-whole_verdict) → Right (given w) (told w)
+right w =
+    let bases = w.symmetrize_lattice-deformed.new.bases in
+    right_of (given w) (no_spaces w) (spaces w) w.prepare_all-prepared.result (table_rooms_lem w) w.prepare_all-prepared.ensures.prepared
+    w.args.aligned.now (images w) w.align_permutations-found.result w.requires w.align_permutations-found.ensures
+    bases.conventional bases.primitive bases.listed w.symmetrize_lattice-deformed.result w.symmetrize_lattice-deformed.ensures
+    w.invariant_factors-diagonalised.new.out w.invariant_factors-diagonalised.result w.invariant_factors-diagonalised.ensures
+
+-- ---- the verdict
+
+until :
+    (w : After-whole_verdict) (v : Verdict) →
+    v ≡ whole_verdict (given w) w.least_room.result (length w.args.answer.now.primitive.now) (told w) →
+    Until (conditions (given w) (rooms_of (lent w))) 12 v
+until w v e =
+    let x = given w in
+    let rooms = rooms_of (lent w) in
+    let is : v ≡ whole_verdict x (least_room rooms) rooms.primitive (told w) =
+    e ∙ ap (λ r. whole_verdict x r rooms.primitive (told w)) w.least_room.ensures in
+    subst (Until (conditions x rooms) 12) (sym is) (whole_until x rooms (told w) (right w))
+
+pub returns-in_err-whole_verdict-clause-uncleared : goal.returns-in_err-whole_verdict-clause-uncleared
+returns-in_err-whole_verdict-clause-uncleared c =
+    let w = (goal.at.returns-in_err-whole_verdict-clause-uncleared c).After-whole_verdict in
+    let k = c.in_err-whole_verdict.field-0.0 in
+    passed_on (Uncleared (given w) (lent w) _) k c.from_residual.result c.from_residual.ensures.1
+    (refused_uncleared (given w) (lent w) _ k (until w _ c.in_err-whole_verdict.ensures))
+
+-- ---- past 12
+
+passed : (w : After-whole_verdict) → Ok tt ≡ whole_verdict (given w) w.least_room.result (length w.args.answer.now.primitive.now) (told w) → Passed (conditions (given w) (rooms_of (lent w))) 12
+passed w e = until w (Ok tt) e
+
+pub list_cell-requires : goal.list_cell-requires
+list_cell-requires c =
+    let w = (goal.at.list_cell-requires c).After-whole_verdict in
+    let x = given w in
+    let rooms = rooms_of (lent w) in
+    let p = passed w c.in_ok-whole_verdict.ensures in
+    (known_copies x rooms p, (known_roomy x rooms p).primitive)
+
+-- so many listed sites
+counted : (w : After-whole_verdict) (m : ℕ) → m ≡ copies w.args.job.now.c → length w.args.job.now.positions.now * m ≡ length w.args.job.now.positions.now * copies w.args.job.now.c
+counted w m e = ap (λ k. length w.args.job.now.positions.now * k) e
+
+pub overflow_mul-work : goal.overflow_mul-work
+overflow_mul-work c =
+    let w = (goal.at.overflow_mul-work c).After-whole_verdict in
+    let x = given w in
+    let rooms = rooms_of (lent w) in
+    let p = passed w c.in_ok-whole_verdict.ensures in
+    listed-word (length x.positions) c.copies.result (known_sites x rooms p) (fits_kept c.copies.ensures (known_copies x rooms p) refl)
+
+pub letter-requires : goal.letter-requires
+letter-requires c =
+    let w = (goal.at.letter-requires c).After-whole_verdict in
+    let x = given w in
+    let rooms = rooms_of (lent w) in
+    let roomy = known_roomy x rooms (passed w c.in_ok-whole_verdict.ensures) in
+    let listed = counted w c.copies.result c.copies.ensures in
+    let kept = c.list_cell.ensures.rooms in (
+      fits_kept listed roomy.positions kept.positions,
+      fits_kept listed roomy.mapping kept.mapping,
+      fits_kept listed roomy.labels refl,
+      fits_kept listed roomy.multiplicities refl,
+    )
+
+-- ---- the answer
+
+-- the images and the tables, as they are read
+images_front :
+    (w : After-whole_verdict) → Passed (conditions (given w) (rooms_of (lent w))) 12 →
+    images w ≡ take (length (given w).rotations_of_targets * length (given w).positions) (images w)
+images_front w p =
+    let x = given w in
+    let long : length (images w) ≤ length x.rotations_of_targets * length x.positions =
+    omega (arith, w.align_permutations-found.auto.out ∙ w.requires ∙ known_entries x (rooms_of (lent w)) p) in
+    sym (take_all _ (images w) long)
+
+spaces-fronts : (w : After-whole_verdict) → Passed (conditions (given w) (rooms_of (lent w))) 12 → spaces w ≡ fronts (length (given w).texts) (spaces w)
+spaces-fronts w p =
+    let x = given w in
+    let k = w.candidates_room-w.result in
+    let e : k ≡ length x.texts = w.candidates_room-w.ensures ∙ known_candidates x (rooms_of (lent w)) p in
+    let kept = w.prepare_all-prepared.ensures.rooms in
+    let m = length-take-le _ (replicate 64 zero_matrix) (few w) ∙ e in
+    let s = length-take-le _ (replicate 64 zero_cells) (few w) ∙ e in
+    λ i.
+    record {
+      matrices = sym (take_all (length x.texts) (spaces w).matrices (omega (arith, kept.matrices ∙ m))) i;
+      shifts = sym (take_all (length x.texts) (spaces w).shifts (omega (arith, kept.shifts ∙ s))) i;
+      ds = sym (take_all (length x.texts) (spaces w).ds (omega (arith, kept.ds ∙ m))) i;
+      ls = sym (take_all (length x.texts) (spaces w).ls (omega (arith, kept.ls ∙ m))) i;
+      rs = sym (take_all (length x.texts) (spaces w).rs (omega (arith, kept.rs ∙ m))) i;
+    }
+
+pub returns-clause-uncleared : goal.returns-clause-uncleared
+returns-clause-uncleared c =
+    let w = (goal.at.returns-clause-uncleared c).After-whole_verdict in
+    let x = given w in
+    let p = passed w c.in_ok-whole_verdict.ensures in
+    let bases = w.symmetrize_lattice-deformed.new.bases in
+    let listing = held c.list_cell.new.listing in
+    let orbits = orbit_cells c.letter.new.orbits in
+    let z : AnswerCells =
+    record {
+      positions = listing.positions;
+      points = listing.points;
+      mapping = listing.mapping;
+      elements = listing.elements;
+      labels = orbits.labels;
+      multiplicities = orbits.multiplicities;
+      letters = c.letter.new.letters;
+      primitive = c.list_cell.new.primitive;
+      primitive_cell_basis = bases.primitive;
+      listed_cell_basis = bases.listed;
+      factors = w.invariant_factors-diagonalised.new.out;
+    } in
+    given_back x (lent w) z c.letter.result
+    (answered x (lent w) z c.list_cell.ensures.listed.shape p
+    (no_spaces w) (spaces w) w.prepare_all-prepared.result (table_rooms_lem w) w.prepare_all-prepared.ensures.prepared
+    w.args.aligned.now (images w) w.align_permutations-found.result w.requires w.align_permutations-found.ensures
+    bases.conventional w.symmetrize_lattice-deformed.result w.symmetrize_lattice-deformed.ensures
+    w.invariant_factors-diagonalised.result w.invariant_factors-diagonalised.ensures
+    (images w) (images_front w p) (spaces w) (spaces-fronts w p) c.list_cell.ensures.listed c.letter.result
+    (finished_by _ _ (counted w c.copies.result c.copies.ensures) (length x.positions) (length x.rotations_of_targets) (images w)
+    z.mapping z.positions bases.listed x.symprec x.multiplicities x.letters (spaces w) (letter_cells (record { labels = (lent w).labels; multiplicities = (lent w).multiplicities }) (lent w).letters)
+    (letter_cells orbits c.letter.new.letters) c.letter.result c.letter.ensures.lettered))
+    (search (rules, c.list_cell.ensures.same_lists)) (search (rules, c.list_cell.ensures.same_lists)) (search (rules, c.list_cell.ensures.same_lists))
+    (search (rules, c.list_cell.ensures.same_lists)) (search (rules, c.letter.ensures.same_orbits)) (search (rules, c.letter.ensures.same_orbits))
