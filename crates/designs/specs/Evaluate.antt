@@ -10,7 +10,8 @@ use Rattle.std.proofs.Math.Option.{Option, none, some, none-ne-some, some-inject
 use Rattle.std.proofs.Math.Pow.{are_bytes}
 use Rattle.std.proofs.Math.Dec.{T}
 use Rattle.definitions.specs.declared.Position.{Position}
-use Rattle.definitions.specs.declared.Match.{Match}
+use Rattle.std.specs.Prelude as Rust
+use Rattle.definitions.specs.declared.Fit.{Fit}
 use Rattle.definitions.specs.Lists.{Some, all}
 use Rattle.definitions.specs.Refusal.{◌when◌, Applies, NoneOf, precedence, Outcome, accepted, refused, Returns, job_bytes, upto}
 use Rattle.definitions.specs.Matrix.{Matrix, identity}
@@ -331,12 +332,12 @@ pub record Matched : Type 0 where
   pub position : Position
   pub text : List ℕ
   pub symprec : Float
-  pub match : Match
+  pub match : Rust.Option Fit
 
 abbrev unit_cell : RealMatrix
 unit_cell = real identity
 
-pub record IsMatch (position : Position) (text : List ℕ) (symprec : Float) (m : Match) : Type 0 where
+pub record IsMatch (position : Position) (text : List ℕ) (symprec : Float) (m : Rust.Option Fit) : Type 0 where
   pub space : Space
   pub is_space : IsSpace text space
   pub is_match : match_of unit_cell symprec space position ≡ m
@@ -344,15 +345,15 @@ pub record IsMatch (position : Position) (text : List ℕ) (symprec : Float) (m 
 abbrev pub MatchedRight : Matched → Type 0
 MatchedRight m = IsMatch m.position m.text m.symprec m.match
 
-match_of_lem : (position : Position) (text : List ℕ) (symprec : Float) → Option ((s : Space) × IsSpace text s) → Option ((m : Match) × IsMatch position text symprec m)
+match_of_lem : (position : Position) (text : List ℕ) (symprec : Float) → Option ((s : Space) × IsSpace text s) → Option ((m : Rust.Option Fit) × IsMatch position text symprec m)
 match_of_lem position text symprec none = none
 match_of_lem position text symprec (some s) = some (match_of unit_cell symprec s.0 position, record { space = s.0; is_space = s.1; is_match = refl })
 
-unfoldable match_found : (m : Matched) → Option ((r : Match) × IsMatch m.position m.text m.symprec r)
+unfoldable match_found : (m : Matched) → Option ((r : Rust.Option Fit) × IsMatch m.position m.text m.symprec r)
 unfolding match_of_lem space_from computed
 match_found m = match_of_lem m.position m.text m.symprec (space_from m.text (parse (spaceless m.text)) refl)
 
-unfoldable pub match_evaluated : Matched → Option Match
+unfoldable pub match_evaluated : Matched → Option (Rust.Option Fit)
 unfolding match_found
 match_evaluated m = outcome_in (match_found m)
 

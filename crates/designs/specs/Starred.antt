@@ -6,7 +6,8 @@ use Rattle.std.specs.Float.Ieee.{fits}
 use Rattle.definitions.specs.declared.Position.{Position}
 use Rattle.definitions.specs.declared.Centering.{Centering}
 use Rattle.definitions.specs.declared.Centering.TheVariants.{C}
-use Rattle.definitions.specs.declared.Verdict.TheVariants.{Refused}
+use Rattle.std.specs.Prelude.{Err}
+use Rattle.definitions.specs.declared.Refusal.TheVariants.{SiteImage, Coordinates, Diagonalisation}
 use Rattle.definitions.specs.Lists.{Each, count}
 use Rattle.definitions.specs.Refusal.{Returns, refused}
 use Rattle.definitions.specs.Matrix.{Matrix, det}
@@ -132,17 +133,17 @@ worked = (
         (
           (tree, (tt, refl), tt, refl, refl),
           (
-            refused_with_lem (text_conditions two_terms) NoAnswer 6 (checked (text_conditions two_terms) (holds (unreadable_none two_terms refl), tt) (Refused 6) refl),
+            refused_with_lem (text_conditions two_terms) NoAnswer Coordinates (checked (text_conditions two_terms) (holds (unreadable_none two_terms refl), tt) (Err Coordinates) refl),
             (
-              refused_with_lem (text_conditions leading_plus) NoAnswer 6 (checked (text_conditions leading_plus) (holds (unreadable_none leading_plus refl), tt) (Refused 6) refl),
+              refused_with_lem (text_conditions leading_plus) NoAnswer Coordinates (checked (text_conditions leading_plus) (holds (unreadable_none leading_plus refl), tt) (Err Coordinates) refl),
               (
                 (labels_computed 5 ((1 ∷ 0 ∷ 2 ∷ 4 ∷ 3 ∷ []) ∷ []) (site_mapping 5 2) tt tt, refl),
                 (
-                  refused_with_lem (inverse_conditions (0 ∷ 0 ∷ []) 2) NoAnswer 5 (checked (inverse_conditions (0 ∷ 0 ∷ []) 2) (fails (λ t. t), (holds tt, (fails (λ t. t), tt))) (Refused 5) refl),
+                  refused_with_lem (inverse_conditions (0 ∷ 0 ∷ []) 2) NoAnswer SiteImage (checked (inverse_conditions (0 ∷ 0 ∷ []) 2) (fails (λ t. t), (holds tt, (fails (λ t. t), tt))) (Err SiteImage) refl),
                   (
                     (found (run 9 diagonal231) tt, refl),
                     (
-                      (refl, refused_with_lem (points_conditions leaving 64) NoAnswer 8 (checked (points_conditions leaving 64) (fails (λ t. t), (fails (λ t. t), (leaves leaving, (fails (λ t. t), tt)))) (Refused 8) refl)),
+                      (refl, refused_with_lem (points_conditions leaving 64) NoAnswer Diagonalisation (checked (points_conditions leaving 64) (fails (λ t. t), (fails (λ t. t), (leaves leaving, (fails (λ t. t), tt)))) (Err Diagonalisation) refl)),
                       tt,
                     ),
                   ),

@@ -1,5 +1,6 @@
-// The calls under C names, for a program in C or Rust to link: `rt lib` in this folder.
-// A slice is a pointer and a length there, an array behind a reference a pointer.
+// The calls under C names, for a program in C or Rust to link: `rt lib` in this folder. A slice is a pointer and a length
+// there, an array behind a reference a pointer. C has no struct of lent lists: each stays a parameter, and the structs
+// are made here.
 #![tactic(auto)]
 
 ghost use Rattle.std.specs.Prelude.{◌≡◌};
@@ -9,11 +10,13 @@ ghost use Rattle.definitions.specs.WholeCalls.{BytesPromise};
 ghost use Rattle.hoistgarlic.specs.Told.{number_of, AsNumber, match_number, match_place, match_distance, MatchTold};
 ghost use Rattle.hoistgarlic.specs.Told.{whole_number, whole_sites, whole_orbits, WholeTold};
 
-use base_cell::label_sites;
-use definitions::{Basis, Cells, Match, Matching, Point, Standardized, Text, Verdict};
+use base_cell::verdicts::Labelling;
+use base_cell::{Orbits, label_sites};
+use definitions::{AnswerCounts, Basis, Cells, Fit, Point, Position, Refusal, Text, Verdict};
 use job_standardize::standardize_bytes;
-use math_real::position::position_of;
 use symmetrize_match::match_coordinates;
+use symmetrize_standardize::Answer;
+use symmetrize_wyckoff::arguments::Lettering;
 use symmetrize_wyckoff::letter_sites;
 
 // the place of a match that misses
@@ -23,8 +26,8 @@ fn number_of(v: Verdict) -> usize
     ensures { result ≡ number_of v }
 {
     match v {
-        Verdict::Accepted => 0,
-        Verdict::Refused(k) => k,
+        Ok(()) => 0,
+        Err(refusal) => usize::from(refusal),
     }
 }
 
@@ -44,30 +47,38 @@ pub extern "C" fn hoistgarlic_label(
         (record { labels = labels.old; multiplicities = multiplicities.old })
         (record { labels = labels.new; multiplicities = multiplicities.new })) result }
 {
-    number_of(label_sites(sites, count, images, mapping, labels, multiplicities))
+    let labelling = Labelling {
+        sites,
+        count,
+        images,
+        mapping,
+    };
+    let mut orbits = Orbits {
+        labels,
+        multiplicities,
+    };
+    number_of(label_sites(&labelling, &mut orbits))
 }
 
 // what is told of a match: its number, and the place and the distance in lent cells
-fn tell_match(r: Matching, place: &mut usize, distance: &mut f64) -> usize
+fn tell_match(r: Result<Option<Fit>, Refusal>, place: &mut usize, distance: &mut f64) -> usize
     ensures { (result ≡ match_number r) × (place.new ≡ match_place r) × (distance.new ≡ match_distance r) }
 {
     match r {
-        Matching::Answered(m) => match m {
-            Match::Fits(p, d) => {
-                *place = p;
-                *distance = d;
-                0
-            }
-            Match::Misses => {
-                *place = MISSES;
-                *distance = 0.0;
-                0
-            }
-        },
-        Matching::Refused(k) => {
+        Ok(Some(fit)) => {
+            *place = fit.place;
+            *distance = fit.distance;
+            0
+        }
+        Ok(None) => {
+            *place = MISSES;
+            *distance = 0.0;
+            0
+        }
+        Err(refusal) => {
             *place = 0;
             *distance = 0.0;
-            k
+            usize::from(refusal)
         }
     }
 }
@@ -86,7 +97,7 @@ pub extern "C" fn hoistgarlic_match(
         (MatchPromise basis.now (position_from position.now) text.now symprec)
         result place.new distance.new }
 {
-    let r = match_coordinates(*basis, position_of(*position), text, symprec);
+    let r = match_coordinates(*basis, Position::from(*position), text, symprec);
     tell_match(r, place, distance)
 }
 
@@ -136,37 +147,45 @@ pub extern "C" fn hoistgarlic_letter(
         }))
         result }
 {
-    number_of(letter_sites(
-        sites,
-        count,
-        images,
-        mapping,
+    let given = Lettering {
+        labelling: Labelling {
+            sites,
+            count,
+            images,
+            mapping,
+        },
         positions,
-        *basis,
-        candidates,
-        candidate_letters,
+        basis: *basis,
+        multiplicities: candidates,
+        letters: candidate_letters,
         texts,
         symprec,
+    };
+    let mut orbits = Orbits {
         labels,
         multiplicities,
-        letters,
-    ))
+    };
+    number_of(letter_sites(&given, &mut orbits, letters))
 }
 
 // what is told of the whole call: its number, and the counts of listed sites and of orbits in lent cells
-fn tell_standardized(r: Standardized, sites: &mut usize, orbits: &mut usize) -> usize
+fn tell_standardized(
+    r: Result<AnswerCounts, Refusal>,
+    sites: &mut usize,
+    orbits: &mut usize,
+) -> usize
     ensures { (result ≡ whole_number r) × (sites.new ≡ whole_sites r) × (orbits.new ≡ whole_orbits r) }
 {
     match r {
-        Standardized::Accepted(n, m) => {
-            *sites = n;
-            *orbits = m;
+        Ok(counts) => {
+            *sites = counts.sites;
+            *orbits = counts.orbits;
             0
         }
-        Standardized::Refused(k) => {
+        Err(refusal) => {
             *sites = 0;
             *orbits = 0;
-            k
+            usize::from(refusal)
         }
     }
 }
@@ -219,19 +238,19 @@ pub extern "C" fn hoistgarlic_standardize(
         }))
         result sites.new orbits.new }
 {
-    let r = standardize_bytes(
-        bytes,
-        out_positions,
-        out_points,
+    let mut answer = Answer {
+        positions: out_positions,
+        points: out_points,
         mapping,
-        out_elements,
+        elements: out_elements,
         labels,
         multiplicities,
         letters,
         primitive,
-        primitive_basis,
-        listed_basis,
+        primitive_cell_basis: primitive_basis,
+        listed_cell_basis: listed_basis,
         factors,
-    );
-    tell_standardized(r, sites, orbits)
+    };
+    let told = standardize_bytes(bytes, &mut answer);
+    tell_standardized(told, sites, orbits)
 }

@@ -7,10 +7,10 @@ use mathlib.Core.Logic.{⊎_elim}
 use native.Mathlib.Omega.{arith}
 use lib.Dec.{T}
 use Rattle.definitions.specs.declared.JobCounts.{JobCounts}
-use Rattle.definitions.specs.declared.JobRead.{JobRead}
-use Rattle.definitions.specs.declared.JobRead.TheVariants.{Read, Refused}
-use Rattle.definitions.specs.declared.Verdict.TheVariants as verdict
-use Rattle.definitions.specs.Refusal.{Condition, accepted, refused, Checked}
+use Rattle.std.specs.Prelude.{Result, Ok, Err}
+use Rattle.definitions.specs.declared.Refusal.{Refusal}
+use Rattle.definitions.specs.declared.Refusal.TheVariants.{JobBytes, Buffer}
+use Rattle.definitions.specs.Refusal.{Condition, accepted, refused, Checked, number}
 use Rattle.definitions.specs.Job.{Parts, IsJob, NoJob, float, position_of, rows_of, job_of}
 use Rattle.definitions.specs.Lent.{cells_of}
 use Rattle.definitions.specs.WholeCalls.{Given, given_of, HoldsGiven, nothing_given, too_short_for, read_conditions, ReadPromise}
@@ -78,22 +78,25 @@ given_is bs k =
 -- ---- the promise
 
 -- counted
-pub count_kept : (bs : List ℕ) (r : JobRead) → Counted bs r → CountPromise bs r
+pub count_kept : (bs : List ℕ) (r : Result JobCounts Refusal) → Counted bs r → CountPromise bs r
 unfolding verdict_of found_none found_at_lem Passed HoldsAt
-count_kept bs (Read k) j =
+count_kept bs (Ok k) j =
     let cs = count_conditions bs in
     let p = parts_at bs k in
-    (accepted p, accepted_with cs (IsJob bs) p (accept cs (not_no_job bs k j, tt) refl) j.is, ap Read (counts_are bs k))
-count_kept bs (Refused n) x =
-    let cs = count_conditions bs in
-    (refused 1, refused_with_lem cs (IsJob bs) 1 (refuse cs 0 tt x.1 (verdict.Refused 1) refl), ap Refused (sym x.0))
+    (accepted p, accepted_with cs (IsJob bs) p (accept cs (not_no_job bs k j, tt) refl) j.is, ap accepted (counts_are bs k))
+count_kept bs (Err r) x =
+    let cs = count_conditions bs in (
+      refused 1,
+      refused_with_lem cs (IsJob bs) JobBytes (refuse cs 0 tt x.1 (Err JobBytes) refl),
+      ap (λ s. refused (number s)) (sym x.0),
+    )
 
 -- read
 module _ (bs : List ℕ) (entry exit : Given) where
   too_short_is : (k : JobCounts) → too_short_for entry (parts_at bs k) ≡ short k (rooms_of entry)
   too_short_is k = ap (λ (n : JobCounts). short n (rooms_of entry)) (counts_are bs k)
 
-  pub read_kept : (k : JobCounts) → JobOf bs k → short k (rooms_of entry) ≡ false → HoldsGiven entry exit (given_at bs k) → ReadPromise bs entry exit (Read k)
+  pub read_kept : (k : JobCounts) → JobOf bs k → short k (rooms_of entry) ≡ false → HoldsGiven entry exit (given_at bs k) → ReadPromise bs entry exit (Ok k)
   unfolding verdict_of found_none Passed
   read_kept k j e h =
       let cs = read_conditions bs entry in
@@ -102,27 +105,27 @@ module _ (bs : List ℕ) (entry exit : Given) where
       not_so (too_short_is k ∙ e) (subst (λ (q : Parts). T (too_short_for entry q)) (job_unique bs x.0 p x.1 j.is) x.2) in (
         accepted p,
         (accepted_with cs (IsJob bs) p (accept cs (not_no_job bs k j, (fits, tt)) refl) j.is, subst (HoldsGiven entry exit) (sym (given_is bs k)) h),
-        ap Read (counts_are bs k),
+        ap accepted (counts_are bs k),
       )
 
-  pub refused_kept : (n : ℕ) → Settled bs (rooms_of entry) (Refused n) → HoldsGiven entry exit nothing_given → ReadPromise bs entry exit (Refused n)
+  pub refused_kept : (r : Refusal) → Settled bs (rooms_of entry) (Err r) → HoldsGiven entry exit nothing_given → ReadPromise bs entry exit (Err r)
   unfolding verdict_of found_at_lem Passed HoldsAt
-  refused_kept n s h = ⊎_elim none_there too_short s
+  refused_kept r s h = ⊎_elim none_there too_short s
     where
       cs : List Condition
       cs = read_conditions bs entry
 
-      with : (m : ℕ) → Checked cs (verdict.Refused m) → n ≡ m → ReadPromise bs entry exit (Refused n)
-      with m e q = (refused m, (refused_with_lem cs (IsJob bs) m e, h), ap Refused (sym q))
+      with : (m : Refusal) → Checked cs (Err m) → r ≡ m → ReadPromise bs entry exit (Err r)
+      with m e q = (refused (number m), (refused_with_lem cs (IsJob bs) m e, h), ap (λ s. refused (number s)) (sym q))
 
-      none_there : (n ≡ 1) × NoJob bs → ReadPromise bs entry exit (Refused n)
-      none_there x = with 1 (refuse cs 0 tt x.1 (verdict.Refused 1) refl) x.0
+      none_there : (r ≡ JobBytes) × NoJob bs → ReadPromise bs entry exit (Err r)
+      none_there x = with JobBytes (refuse cs 0 tt x.1 (Err JobBytes) refl) x.0
 
-      too_short : (n ≡ 10) × ((k : JobCounts) × JobOf bs k × (short k (rooms_of entry) ≡ true)) → ReadPromise bs entry exit (Refused n)
+      too_short : (r ≡ Buffer) × ((k : JobCounts) × JobOf bs k × (short k (rooms_of entry) ≡ true)) → ReadPromise bs entry exit (Err r)
       too_short x =
           let k = x.1.0 in
           let j = x.1.1 in
-          with 10 (refuse cs 1 (not_no_job bs k j, tt) (parts_at bs k, j.is, so (too_short_is k ∙ x.1.2)) (verdict.Refused 10) refl) x.0
+          with Buffer (refuse cs 1 (not_no_job bs k j, tt) (parts_at bs k, j.is, so (too_short_is k ∙ x.1.2)) (Err Buffer) refl) x.0
 
   -- counted already
   pub counted-kept : (k : JobCounts) → readable bs k (rooms_of entry) ≡ true → HoldsGiven entry exit (given_at bs k) → ReadCounted bs k entry exit

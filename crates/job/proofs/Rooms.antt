@@ -14,7 +14,8 @@ use Rattle.laws.specs.Tests.{neither_left, neither_right, never, so, true_of, of
 use Rattle.laws.specs.Lists.{none_head, none_tail}
 use Rattle.job.specs.Places.{symprec_from}
 use Rattle.job.specs.Counted.{more_than, Within, within_not}
-use Rattle.job.specs.Given.{Rooms, short, shorter_two, shorter_three, Enough, takes_up, readable, most_each}
+use Rattle.job.specs.declared.room.Rooms.{Rooms}
+use Rattle.job.specs.Given.{short, shorter_two, shorter_three, Enough, takes_up, readable, most_each}
 
 pub any_skip : {A : Type 0} (t : A → Bool) (a : A) (l : List A) → t a ≡ false → any t (a ∷ l) ≡ any t l
 unfolding any

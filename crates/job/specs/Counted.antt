@@ -1,11 +1,11 @@
 -- What the steps of reading a job find.
 use Rattle.std.specs.Prelude.{ℕ, ◌+◌, ◌≤◌, ◌≡◌, Bool, true, false, ◌||◌, List, length, ltb}
 use Rattle.std.proofs.Common.{⊎_elim, arith, ltb-false, le-ltb}
+use Rattle.std.specs.Prelude.{Result, Ok, Err}
 use Rattle.definitions.specs.declared.JobCounts.{JobCounts}
-use Rattle.definitions.specs.declared.JobRead.{JobRead}
-use Rattle.definitions.specs.declared.JobRead.TheVariants.{Read, Refused}
+use Rattle.definitions.specs.declared.Refusal.{Refusal}
+use Rattle.definitions.specs.declared.Refusal.TheVariants.{JobBytes}
 use Rattle.definitions.specs.Limits.{most_bytes}
-use Rattle.definitions.specs.Refusal.{job_bytes}
 use Rattle.definitions.specs.Job.{IsJob, NoJob}
 use Rattle.definitions.specs.WholeCalls.{counts_of}
 use Rattle.laws.specs.Tests.{neither, neither_left, neither_right}
@@ -24,9 +24,9 @@ pub record JobOf (bs : List ℕ) (k : JobCounts) : Type 0 where
   pub is : IsJob bs (parts_at bs k)
   pub room : symprec_from k + 10 ≡ length bs
 
-abbrev pub Counted : List ℕ → JobRead → Type 0
-Counted bs (Read k) = JobOf bs k
-Counted bs (Refused n) = (n ≡ job_bytes) × NoJob bs
+abbrev pub Counted : List ℕ → Result JobCounts Refusal → Type 0
+Counted bs (Ok k) = JobOf bs k
+Counted bs (Err r) = (r ≡ JobBytes) × NoJob bs
 
 -- ---- laws
 

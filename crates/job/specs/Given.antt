@@ -1,13 +1,11 @@
 -- The lent values of the call that reads a job, and whether they have room.
-use Rattle.std.specs.Prelude.{ℕ, ◌+◌, ◌≤◌, ◌≡◌, Bool, true, false, not, ◌||◌, ◌&&◌, List, [], ◌∷◌, ◌⊎◌, length, ltb, eqb, ℤ, Float}
+use Rattle.std.specs.Prelude.{ℕ, ◌+◌, ◌≤◌, ◌≡◌, Bool, true, false, not, ◌||◌, ◌&&◌, List, [], ◌∷◌, ◌⊎◌, length, ltb, eqb}
+use Rattle.std.specs.Prelude.{Result, Ok, Err}
 use Rattle.definitions.specs.declared.JobCounts.{JobCounts}
-use Rattle.definitions.specs.declared.JobRead.{JobRead}
-use Rattle.definitions.specs.declared.JobRead.TheVariants.{Read, Refused}
+use Rattle.definitions.specs.declared.Refusal.{Refusal}
+use Rattle.definitions.specs.declared.Refusal.TheVariants.{JobBytes, Buffer}
 use Rattle.definitions.specs.Lists.{any}
 use Rattle.definitions.specs.Limits.{shorter_than, most_bytes}
-use Rattle.definitions.specs.Refusal.{job_bytes, buffer}
-use Rattle.definitions.specs.Matrix.{Matrix}
-use Rattle.definitions.specs.Real.{RealMatrix}
 use Rattle.definitions.specs.Job.{NoJob, position_of}
 use Rattle.definitions.specs.Lent.{position_from}
 use Rattle.definitions.specs.WholeCalls.{Given, given_of, HoldsGiven, nothing_given}
@@ -16,32 +14,49 @@ use Rattle.job.specs.Places.{parts_at}
 use Rattle.job.specs.Places.{operations_from, images_from, targets_from, rotations_from, candidates_from, symprec_from}
 use Rattle.job.specs.Words.{float_at}
 use Rattle.job.specs.Counted.{JobOf}
+use Rattle.job.specs.declared.JobLists.{JobLists}
+use Rattle.job.specs.declared.room.Rooms.{Rooms}
 
--- the lent values in the order of the call
-abbrev pub lent :
-    RealMatrix → Matrix → List Float → Matrix → List ℤ → List (List Float) → List Matrix → List (List Float) → List ℕ →
-    List Matrix → List (List Float) → List Matrix → List ℕ → List ℕ → List (List ℕ) → Float → Given
-lent
-    lattice t shift c elements positions rotations translations images target-rotations target_translations conventional
-    multiplicities letters texts symprec =
+-- the lent values
+abbrev pub given_in : JobLists → Given
+given_in l =
     record {
-      lattice = lattice;
-      t = t;
-      shift = position_from shift;
-      c = c;
-      elements = elements;
-      positions = positions;
-      rotations = rotations;
-      translations = translations;
-      images = images;
-      rotations_of_targets = target-rotations;
-      translations_of_targets = target_translations;
-      conventional = conventional;
-      multiplicities = multiplicities;
-      letters = letters;
-      texts = texts;
-      symprec = symprec;
+      lattice = l.lattice.now;
+      t = l.t.now;
+      shift = position_from l.shift.now;
+      c = l.c.now;
+      elements = l.elements.now;
+      positions = l.positions.now;
+      rotations = l.rotations.now;
+      translations = l.translations.now;
+      images = l.images.now;
+      rotations_of_targets = l.rotations_of_targets.now;
+      translations_of_targets = l.translations_of_targets.now;
+      conventional = l.conventional.now;
+      multiplicities = l.multiplicities.now;
+      letters = l.letters.now;
+      texts = l.texts.now;
+      symprec = l.symprec.now;
     }
+
+-- .. and they are the same ones, whatever they hold
+pub record SameJob (before after : JobLists) : Type 0 where
+  pub lattice : after.lattice.ghost_name ≡ before.lattice.ghost_name
+  pub t : after.t.ghost_name ≡ before.t.ghost_name
+  pub shift : after.shift.ghost_name ≡ before.shift.ghost_name
+  pub c : after.c.ghost_name ≡ before.c.ghost_name
+  pub elements : after.elements.ghost_name ≡ before.elements.ghost_name
+  pub positions : after.positions.ghost_name ≡ before.positions.ghost_name
+  pub rotations : after.rotations.ghost_name ≡ before.rotations.ghost_name
+  pub translations : after.translations.ghost_name ≡ before.translations.ghost_name
+  pub images : after.images.ghost_name ≡ before.images.ghost_name
+  pub rotations_of_targets : after.rotations_of_targets.ghost_name ≡ before.rotations_of_targets.ghost_name
+  pub translations_of_targets : after.translations_of_targets.ghost_name ≡ before.translations_of_targets.ghost_name
+  pub conventional : after.conventional.ghost_name ≡ before.conventional.ghost_name
+  pub multiplicities : after.multiplicities.ghost_name ≡ before.multiplicities.ghost_name
+  pub letters : after.letters.ghost_name ≡ before.letters.ghost_name
+  pub texts : after.texts.ghost_name ≡ before.texts.ghost_name
+  pub symprec : after.symprec.ghost_name ≡ before.symprec.ghost_name
 
 -- what the values are after a job of so many of each command was read
 abbrev pub given_at : List ℕ → JobCounts → Given
@@ -67,43 +82,21 @@ given_at bs k =
 
 -- ---- room
 
--- how many entries each lent list has
-pub record Rooms : Type 0 where
-  pub elements : ℕ
-  pub positions : ℕ
-  pub rotations : ℕ
-  pub translations : ℕ
-  pub images : ℕ
-  pub rotations_of_targets : ℕ
-  pub translations_of_targets : ℕ
-  pub conventional : ℕ
-  pub multiplicities : ℕ
-  pub letters : ℕ
-  pub texts : ℕ
-
-abbrev pub rooms : ℕ → ℕ → ℕ → ℕ → ℕ → ℕ → ℕ → ℕ → ℕ → ℕ → ℕ → Rooms
-rooms
-    elements positions rotations translations images target-rotations target_translations conventional multiplicities
-    letters texts =
-    record {
-      elements = elements;
-      positions = positions;
-      rotations = rotations;
-      translations = translations;
-      images = images;
-      rotations_of_targets = target-rotations;
-      translations_of_targets = target_translations;
-      conventional = conventional;
-      multiplicities = multiplicities;
-      letters = letters;
-      texts = texts;
-    }
-
 abbrev pub rooms_of : Given → Rooms
 rooms_of e =
-    rooms (length e.elements) (length e.positions) (length e.rotations) (length e.translations)
-    (length e.images) (length e.rotations_of_targets) (length e.translations_of_targets) (length e.conventional)
-    (length e.multiplicities) (length e.letters) (length e.texts)
+    record {
+      elements = length e.elements;
+      positions = length e.positions;
+      rotations = length e.rotations;
+      translations = length e.translations;
+      images = length e.images;
+      rotations_of_targets = length e.rotations_of_targets;
+      translations_of_targets = length e.translations_of_targets;
+      conventional = length e.conventional;
+      multiplicities = length e.multiplicities;
+      letters = length e.letters;
+      texts = length e.texts;
+    }
 
 abbrev pub shorter_two : ℕ → ℕ → ℕ → Bool
 shorter_two n a b = any (shorter_than n) (a ∷ b ∷ [])
@@ -136,10 +129,10 @@ pub record Enough (k : JobCounts) (e : Rooms) : Type 0 where
   pub texts : k.candidates ≤ e.texts
 
 -- what was found of the bytes and of the rooms: 1 first
-abbrev pub Settled : List ℕ → Rooms → JobRead → Type 0
-Settled bs e (Read k) = JobOf bs k × (short k e ≡ false)
-Settled bs e (Refused n) =
-    ((n ≡ job_bytes) × NoJob bs) ⊎ ((n ≡ buffer) × ((k : JobCounts) × JobOf bs k × (short k e ≡ true)))
+abbrev pub Settled : List ℕ → Rooms → Result JobCounts Refusal → Type 0
+Settled bs e (Ok k) = JobOf bs k × (short k e ≡ false)
+Settled bs e (Err r) =
+    ((r ≡ JobBytes) × NoJob bs) ⊎ ((r ≡ Buffer) × ((k : JobCounts) × JobOf bs k × (short k e ≡ true)))
 
 -- ---- a job that is counted already
 

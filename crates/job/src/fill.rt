@@ -5,9 +5,10 @@ ghost use Rattle.definitions.specs.Lent.{zero_cells, zero_matrix};
 ghost use Rattle.definitions.specs.WholeCalls.{zero_text, HoldsGiven};
 ghost use Rattle.job.specs.Places.{items, word_at, integer_at, text_at, lattice_at, cells_from, matrix_from};
 ghost use Rattle.job.specs.Places.{symprec_from};
-ghost use Rattle.job.specs.Given.{lent, rooms, Enough, given_at};
+ghost use Rattle.job.specs.Given.{given_in, SameJob, rooms_of, Enough, given_at};
 ghost use Rattle.job.specs.Words.{float_at};
 
+use crate::JobLists;
 use crate::lists::put_items;
 use crate::operands::{cells_at, float_at, lattice_of, matrix_at};
 use definitions::{Basis, Cells, JobCounts, Linear, Rotation, Text};
@@ -79,26 +80,29 @@ fn fill_conventional(bytes: &[u8], at: usize, n: usize, conventional: &mut [Rota
     put_items(bytes, at + 1, 10, n, conventional);
 }
 
-// W
+// W: how often a site of the candidate stands in a cell, and its letter
 fn fill_candidates(
     bytes: &[u8],
     at: usize,
     n: usize,
-    candidates: &mut [u16],
-    candidate_letters: &mut [u8],
-    texts: &mut [Text],
+    multiplicities: &mut [u16],
+    letters: &mut [u8],
 )
-    requires { (at + n * 68 + 10 ≤ length bytes.now) × (n ≤ length candidates.old)
-        × (n ≤ length candidate_letters.old) × (n ≤ length texts.old) }
-    ensures { Holds 0 candidates.old candidates.new
+    requires { (at + n * 68 + 10 ≤ length bytes.now) × (n ≤ length multiplicities.old) × (n ≤ length letters.old) }
+    ensures { Holds 0 multiplicities.old multiplicities.new
         (items (word_at 2 bytes.now) 68 (at + 1) n)
-        × Holds 0 candidate_letters.old candidate_letters.new
-        (items (word_at 1 bytes.now) 68 (at + 3) n)
-        × Holds zero_text texts.old texts.new
-        (items (text_at bytes.now) 68 (at + 4) n) }
+        × Holds 0 letters.old letters.new
+        (items (word_at 1 bytes.now) 68 (at + 3) n) }
 {
-    put_items(bytes, at + 1, 68, n, candidates);
-    put_items(bytes, at + 3, 68, n, candidate_letters);
+    put_items(bytes, at + 1, 68, n, multiplicities);
+    put_items(bytes, at + 3, 68, n, letters);
+}
+
+// .. and its coordinates
+fn fill_texts(bytes: &[u8], at: usize, n: usize, texts: &mut [Text])
+    requires { (at + n * 68 + 10 ≤ length bytes.now) × (n ≤ length texts.old) }
+    ensures { Holds zero_text texts.old texts.new (items (text_at bytes.now) 68 (at + 4) n) }
+{
     put_items(bytes, at + 4, 68, n, texts);
 }
 
@@ -110,74 +114,45 @@ fn fill_symprec(bytes: &[u8], at: usize, symprec: &mut f64)
     *symprec = float_at(bytes, at + 1);
 }
 
-// All parts of a job with room for each.
-pub(crate) fn fill(
-    bytes: &[u8],
-    k: JobCounts,
-    lattice: &mut Basis,
-    t: &mut Linear,
-    shift: &mut Cells,
-    c: &mut Linear,
-    elements: &mut [i32],
-    positions: &mut [Cells],
-    rotations: &mut [Rotation],
-    translations: &mut [Cells],
-    images: &mut [u8],
-    target_rotations: &mut [Rotation],
-    target_translations: &mut [Cells],
-    conventional: &mut [Rotation],
-    candidates: &mut [u16],
-    candidate_letters: &mut [u8],
-    texts: &mut [Text],
-    symprec: &mut f64,
-)
-    requires { (symprec_from k + 10 ≡ length bytes.now) × Enough k
-        (rooms (length elements.old) (length positions.old) (length rotations.old) (length translations.old)
-        (length images.old) (length target_rotations.old) (length target_translations.old)
-        (length conventional.old) (length candidates.old) (length candidate_letters.old)
-        (length texts.old)) }
-    ensures { HoldsGiven
-        (lent lattice.old t.old shift.old c.old elements.old
-        positions.old rotations.old translations.old images.old
-        target_rotations.old target_translations.old conventional.old
-        candidates.old candidate_letters.old texts.old symprec.old)
-        (lent lattice.new t.new shift.new c.new elements.new
-        positions.new rotations.new translations.new images.new
-        target_rotations.new target_translations.new conventional.new
-        candidates.new candidate_letters.new texts.new symprec.new)
-        (given_at bytes.now k) }
-{
-    let operations_from = 117 + k.sites * 29;
-    let images_from = operations_from + k.operations * 34;
-    let targets_from = images_from + k.images * 2;
-    let rotations_from = targets_from + k.targets * 34;
-    let candidates_from = rotations_from + k.rotations * 10;
-    let symprec_from = candidates_from + k.candidates * 68;
-    fill_opening(bytes, lattice, t, shift, c);
-    fill_sites(bytes, k.sites, elements, positions);
-    fill_operations(
-        bytes,
-        operations_from,
-        k.operations,
-        rotations,
-        translations,
-    );
-    fill_images(bytes, images_from, k.images, images);
-    fill_operations(
-        bytes,
-        targets_from,
-        k.targets,
-        target_rotations,
-        target_translations,
-    );
-    fill_conventional(bytes, rotations_from, k.rotations, conventional);
-    fill_candidates(
-        bytes,
-        candidates_from,
-        k.candidates,
-        candidates,
-        candidate_letters,
-        texts,
-    );
-    fill_symprec(bytes, symprec_from, symprec);
+impl JobLists<'_> {
+    // All parts of a job with room for each.
+    pub(crate) fn fill(&mut self, bytes: &[u8], k: JobCounts)
+        requires { (symprec_from k + 10 ≡ length bytes.now) × Enough k (rooms_of (given_in self.old)) }
+        ensures filled { HoldsGiven (given_in self.old) (given_in self.new) (given_at bytes.now k) }
+        ensures same_lists { SameJob self.old self.new }
+    {
+        let operations_from = 117 + k.sites * 29;
+        let images_from = operations_from + k.operations * 34;
+        let targets_from = images_from + k.images * 2;
+        let rotations_from = targets_from + k.targets * 34;
+        let candidates_from = rotations_from + k.rotations * 10;
+        let symprec_from = candidates_from + k.candidates * 68;
+        fill_opening(bytes, self.lattice, self.t, self.shift, self.c);
+        fill_sites(bytes, k.sites, self.elements, self.positions);
+        fill_operations(
+            bytes,
+            operations_from,
+            k.operations,
+            self.rotations,
+            self.translations,
+        );
+        fill_images(bytes, images_from, k.images, self.images);
+        fill_operations(
+            bytes,
+            targets_from,
+            k.targets,
+            self.rotations_of_targets,
+            self.translations_of_targets,
+        );
+        fill_conventional(bytes, rotations_from, k.rotations, self.conventional);
+        fill_candidates(
+            bytes,
+            candidates_from,
+            k.candidates,
+            self.multiplicities,
+            self.letters,
+        );
+        fill_texts(bytes, candidates_from, k.candidates, self.texts);
+        fill_symprec(bytes, symprec_from, self.symprec);
+    }
 }

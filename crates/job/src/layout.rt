@@ -6,7 +6,7 @@ ghost use Rattle.job.specs.Counted.{Decided, Counted, more_than};
 ghost use Rattle.job.specs.Given.{takes_up};
 
 use definitions::limits::MOST_BYTES;
-use definitions::{JobCounts, JobRead, refusal};
+use definitions::{JobCounts, Refusal};
 
 // How many commands of one kind stand one behind the other from a place on; one that is cut is not counted.
 fn count_run(bytes: &[u8], at: usize, command: u8, width: usize) -> usize
@@ -130,19 +130,19 @@ pub(crate) fn takes_up(k: JobCounts, bytes: usize) -> bool
 }
 
 // The numbers of commands if the bytes are a job, else 1.
-pub fn counted(bytes: &[u8]) -> JobRead
+pub fn counted(bytes: &[u8]) -> Result<JobCounts, Refusal>
     ensures { Counted bytes.now result }
 {
     if MOST_BYTES < bytes.len() {
-        return JobRead::Refused(refusal::JOB_BYTES);
+        return Err(Refusal::JobBytes);
     }
     if !opens(bytes) {
-        return JobRead::Refused(refusal::JOB_BYTES);
+        return Err(Refusal::JobBytes);
     }
     let k = layout(bytes);
     let end = symprec_from(k);
     if !closes(bytes, end) {
-        return JobRead::Refused(refusal::JOB_BYTES);
+        return Err(Refusal::JobBytes);
     }
-    JobRead::Read(k)
+    Ok(k)
 }

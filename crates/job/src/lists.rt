@@ -4,7 +4,7 @@ ghost use Rattle.std.specs.Prelude.{ℕ, List, ◌+◌, ◌*◌, ◌≤◌, ◌�
 ghost use Rattle.definitions.specs.Refusal.{padded};
 ghost use Rattle.job.specs.Places.{items, word_at, integer_at, text_at, cells_from, matrix_from};
 
-use crate::operands::{cells_at, element_at, matrix_at, number_at, text_at};
+use crate::operands::{bytes_at, cells_at, element_at, matrix_at, number_at};
 use definitions::{Cells, Rotation, Text};
 use lent::{Zero, clear};
 
@@ -89,7 +89,7 @@ impl Operand for Text {
     const WIDTH: usize = 64;
 
     fn read(bytes: &[u8], at: usize) -> Text {
-        text_at(bytes, at)
+        bytes_at(bytes, at)
     }
 }
 

@@ -1,16 +1,16 @@
 // Operands at a place of the bytes, little-endian: floats by their bits, numbers of one, two and four bytes, matrices,
 // texts.
-ghost use Rattle.std.specs.Prelude.{◌+◌, ◌≤◌, ◌≡◌, [], ◌∷◌, length, take, drop};
+ghost use Rattle.std.specs.Prelude.{◌+◌, ◌*◌, ◌≤◌, ◌≡◌, [], ◌∷◌, length, take, drop};
 ghost use Rattle.std.specs.Float.{binary64};
 ghost use Rattle.std.specs.Float.Ieee.{of_bits};
 ghost use Rattle.job_laws.specs.Reader.{from_complement};
-ghost use Rattle.job.specs.Places.{integer_at, text_at, lattice_at, cells_from, matrix_from};
+ghost use Rattle.job.specs.Places.{integer_at, lattice_at, cells_from, matrix_from};
 ghost use Rattle.job.specs.Words.{word2, word4, word8, signed_at, float_at};
 
-use definitions::{Basis, Cells, Rotation, Text};
+use definitions::{Basis, Cells, Rotation};
 
 // N bytes from a place on
-fn bytes_at<const N: usize>(bytes: &[u8], at: usize) -> [u8; N]
+pub(crate) fn bytes_at<const N: usize>(bytes: &[u8], at: usize) -> [u8; N]
     requires { at + N ≤ length bytes.now }
     ensures { result ≡ take N (drop at bytes.now) }
 {
@@ -19,6 +19,8 @@ fn bytes_at<const N: usize>(bytes: &[u8], at: usize) -> [u8; N]
     part
 }
 
+// Numbers of eight, four and two bytes: the library's `from_le_bytes` is each type's own, so that a trait of it would say
+// this line once a type as well.
 fn word_at(bytes: &[u8], at: usize) -> u64
     requires { at + 8 ≤ length bytes.now }
     ensures { result ≡ word8 bytes.now at }
@@ -43,36 +45,34 @@ pub(crate) fn float_at(bytes: &[u8], at: usize) -> f64
     float_of(word_at(bytes, at))
 }
 
+// three floats, each so many bytes behind the one before
+fn floats_at(bytes: &[u8], at: usize, step: usize) -> Cells
+    requires { at + 2 * step + 8 ≤ length bytes.now }
+    ensures { result ≡
+        float_at bytes.now at ∷ float_at bytes.now (at + step) ∷
+        float_at bytes.now (at + 2 * step) ∷ [] }
+{
+    let x = float_at(bytes, at);
+    let y = float_at(bytes, at + step);
+    let z = float_at(bytes, at + 2 * step);
+    [x, y, z]
+}
+
 pub(crate) fn cells_at(bytes: &[u8], at: usize) -> Cells
     requires { at + 24 ≤ length bytes.now }
     ensures { result ≡ cells_from bytes.now at }
 {
-    let x = float_at(bytes, at);
-    let y = float_at(bytes, at + 8);
-    let z = float_at(bytes, at + 16);
-    [x, y, z]
+    floats_at(bytes, at, 8)
 }
 
-// one coordinate of each basis vector: they stand column by column
-fn lattice_row(bytes: &[u8], at: usize) -> [f64; 3]
-    requires { at + 56 ≤ length bytes.now }
-    ensures { result ≡
-        float_at bytes.now at ∷ float_at bytes.now (at + 24) ∷
-        float_at bytes.now (at + 48) ∷ [] }
-{
-    let x = float_at(bytes, at);
-    let y = float_at(bytes, at + 24);
-    let z = float_at(bytes, at + 48);
-    [x, y, z]
-}
-
+// one coordinate of each basis vector in a row: they stand column by column
 pub(crate) fn lattice_of(bytes: &[u8]) -> Basis
     requires { 73 ≤ length bytes.now }
     ensures { result ≡ lattice_at bytes.now }
 {
-    let x = lattice_row(bytes, 1);
-    let y = lattice_row(bytes, 9);
-    let z = lattice_row(bytes, 17);
+    let x = floats_at(bytes, 1, 24);
+    let y = floats_at(bytes, 9, 24);
+    let z = floats_at(bytes, 17, 24);
     [x, y, z]
 }
 
@@ -134,11 +134,4 @@ pub(crate) fn number_at(bytes: &[u8], at: usize) -> u16
     ensures { result ≡ word2 bytes.now at }
 {
     u16::from_le_bytes(bytes_at(bytes, at))
-}
-
-pub(crate) fn text_at(bytes: &[u8], at: usize) -> Text
-    requires { at + 64 ≤ length bytes.now }
-    ensures { result ≡ text_at bytes.now at }
-{
-    bytes_at(bytes, at)
 }

@@ -2,8 +2,10 @@
 use Rattle.std.specs.Prelude.{ℕ, refl, List, T}
 use Rattle.std.proofs.Common.{sym, inl, inr}
 use Rattle.std.proofs.Math.Path.{subst}
-use Rattle.definitions.specs.declared.Standardized.{Standardized}
-use Rattle.definitions.specs.declared.Standardized.TheVariants.{Refused}
+use Rattle.std.specs.Prelude.{Result, Err}
+use Rattle.definitions.specs.declared.Refusal.{Refusal}
+use Rattle.definitions.specs.declared.Refusal.TheVariants.{JobBytes, Counts}
+use Rattle.definitions.specs.declared.AnswerCounts.{AnswerCounts}
 use Rattle.definitions.specs.Refusal.{Condition, ◌when◌, Applies, NoneOf, upto, precedence, job_bytes, counts, Outcome}
 use Rattle.definitions.specs.Refusal.{accepted, refused, Returns}
 use Rattle.definitions.specs.Job.{Parts, IsJob, NoJob, job_of}
@@ -48,8 +50,8 @@ module _ (bs : List ℕ) (p : Parts) (i : IsJob bs p) (is_job : NoJob bs → ⊥
 
 -- the promise of the call on lists is that of the call on bytes
 pub bytes_promise :
-    (bs : List ℕ) (p : Parts) → IsJob bs p → (NoJob bs → ⊥) → (entry exit : AnswerCells) (r : Standardized) →
-    ListsPromise (given_of p) entry exit r → BytesPromise bs entry exit r
+    (bs : List ℕ) (p : Parts) → IsJob bs p → (NoJob bs → ⊥) → (entry exit : AnswerCells)
+    (r : Result AnswerCounts Refusal) → ListsPromise (given_of p) entry exit r → BytesPromise bs entry exit r
 bytes_promise bs p i is_job entry exit r (accepted a, (ret, holds), told) =
     (accepted a, (bytes_return bs p i is_job (rooms_of entry) (accepted a) ret, holds), told)
 bytes_promise bs p i is_job entry exit r (refused k, (ret, zero), told) =
@@ -58,14 +60,14 @@ bytes_promise bs p i is_job entry exit r (refused k, (ret, zero), told) =
 -- bytes that are no job's: 1
 pub no_job_promise :
     (bs : List ℕ) → NoJob bs → (entry exit : AnswerCells) → HoldsAnswer entry exit nothing_answered →
-    BytesPromise bs entry exit (Refused job_bytes)
+    BytesPromise bs entry exit (Err JobBytes)
 unfolding Returns Applies NoneOf upto precedence
 no_job_promise bs n entry exit zero = (refused job_bytes, ((inl n, tt), zero), refl)
 
 -- a job with bad counts: 2
 pub counts_promise :
     (bs : List ℕ) (p : Parts) → IsJob bs p → (NoJob bs → ⊥) → T (bad_counts (job_of p)) → (entry exit : AnswerCells) →
-    HoldsAnswer entry exit nothing_answered → BytesPromise bs entry exit (Refused counts)
+    HoldsAnswer entry exit nothing_answered → BytesPromise bs entry exit (Err Counts)
 unfolding Returns Applies NoneOf upto precedence
 counts_promise bs p i is_job bad entry exit zero =
     (refused counts, ((inl (p, i, bad), (applies_not_1, tt)), zero), refl)

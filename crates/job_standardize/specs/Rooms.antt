@@ -4,7 +4,9 @@ use Rattle.std.proofs.Common.{sym, ap, ◌∙◌, subst, append-nil, arith, le-l
 use Rattle.std.proofs.lemmas.List.{length-map, length-replicate}
 use Rattle.definitions.specs.declared.JobCounts.{JobCounts}
 use Rattle.definitions.specs.declared.Position.{Position}
-use Rattle.definitions.specs.declared.Standardized.{Standardized}
+use Rattle.std.specs.Prelude.{Result}
+use Rattle.definitions.specs.declared.Refusal.{Refusal}
+use Rattle.definitions.specs.declared.AnswerCounts.{AnswerCounts}
 use Rattle.definitions.specs.Lists.{any}
 use Rattle.definitions.specs.Limits.{shorter_than, most_bytes}
 use Rattle.definitions.specs.Refusal.{Holds}
@@ -16,7 +18,8 @@ use Rattle.laws.specs.Lists.{any_none}
 use Rattle.laws.specs.Tests.{neither}
 use Rattle.job.specs.Places.{parts_at, symprec_from}
 use Rattle.job.specs.Counted.{JobOf, counts_are, not_no_job}
-use Rattle.job.specs.Given.{Rooms, rooms_of, short, readable, counted_given, ReadCounted}
+use Rattle.job.specs.declared.room.Rooms.{Rooms}
+use Rattle.job.specs.Given.{rooms_of, short, readable, counted_given, ReadCounted}
 use Rattle.job_standardize.specs.Bytes.{bytes_promise}
 
 -- as many entries in each list as the job has commands
@@ -162,7 +165,7 @@ module _ (bs : List ℕ) (k : JobCounts) (entry exit : Given) (just : JustRoom b
 
   -- what the call on the lists promises after the reading, the call on bytes does
   pub read_promise :
-      ReadCounted bs k entry exit → (old new : AnswerCells) (s : Standardized) →
+      ReadCounted bs k entry exit → (old new : AnswerCells) (s : Result AnswerCounts Refusal) →
       ListsPromise exit old new s → BytesPromise bs old new s
   read_promise h old new s promised =
       bytes_promise bs p just.job.is (not_no_job bs k just.job) old new s
@@ -193,6 +196,6 @@ shifted e q =
     }
 
 pub same_shift :
-    (e : Given) (p q : Position) → p ≡ q → (old new : AnswerCells) (s : Standardized) →
+    (e : Given) (p q : Position) → p ≡ q → (old new : AnswerCells) (s : Result AnswerCounts Refusal) →
     ListsPromise (shifted e p) old new s → ListsPromise (shifted e q) old new s
 same_shift e p q h old new s = subst (λ x. ListsPromise (shifted e x) old new s) h

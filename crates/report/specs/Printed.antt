@@ -2,15 +2,17 @@
 use Rattle.std.specs.Prelude.{ℕ, zero, suc, ◌-◌, ◌≤◌, ◌≡◌, refl, List, [], ◌∷◌, ◌++◌, length, get_or, take, replicate}
 use Rattle.std.proofs.Common.{sym, ap, ◌∙◌, inl, arith, ltb-false}
 use Rattle.std.proofs.Math.Path.{subst}
-use Rattle.definitions.specs.declared.Standardized.{Standardized}
+use Rattle.std.specs.Prelude.{Result}
+use Rattle.definitions.specs.declared.Refusal.{Refusal}
+use Rattle.definitions.specs.declared.AnswerCounts.{AnswerCounts}
 use Rattle.definitions.specs.Lists.{any}
 use Rattle.definitions.specs.Refusal.{Holds, Applies, precedence, listed_sites, PastAll, Outcome, accepted, refused}
-use Rattle.definitions.specs.Refusal.{Returns}
+use Rattle.definitions.specs.Refusal.{Returns, TellsOf}
 use Rattle.definitions.specs.Limits.{too_many_listed, most_listed}
 use Rattle.definitions.specs.Job.{job_of}
 use Rattle.definitions.specs.Standardize.{Answer, IsAnswer, listed_count, bytes_conditions, OfParts}
-use Rattle.definitions.specs.WholeCalls.{AnswerCells, rooms_of, HoldsAnswer, told_whole, BytesPromise, ample, Shown, SameEntries}
-use Rattle.definitions.specs.WholeCalls.{Tells, ReportWritten, ReportPromise}
+use Rattle.definitions.specs.WholeCalls.{AnswerCells, rooms_of, HoldsAnswer, answer_counts, BytesPromise, ample}
+use Rattle.definitions.specs.WholeCalls.{Shown, SameEntries, Tells, ReportWritten, ReportPromise}
 use Rattle.laws.specs.Order.{none_of}
 use Rattle.laws.specs.Tests.{off}
 use Rattle.report_text.specs.Text.{report_bytes}
@@ -36,7 +38,7 @@ entries old cells answer e j = ap (λ l. get_or l j 0) e ∙ behind answer (leng
 abbrev pub shown : AnswerCells → Shown
 shown e = record { mapping = e.mapping; labels = e.labels; multiplicities = e.multiplicities; letters = e.letters }
 
-module _ (bs : List ℕ) (entry exit : AnswerCells) (r : Standardized) where
+module _ (bs : List ℕ) (entry exit : AnswerCells) (r : Result AnswerCounts Refusal) where
   -- an accepted answer has at most 1,024 listed sites
   few_sites :
       (a : Answer) → PastAll (bytes_conditions bs (rooms_of entry)) → OfParts bs (λ p. IsAnswer (job_of p) a) → a.sites ≤ most_listed
@@ -45,7 +47,7 @@ module _ (bs : List ℕ) (entry exit : AnswerCells) (r : Standardized) where
       let few = off (too_many_listed (listed_count (job_of p))) (λ t. none_of (bytes_conditions bs (rooms_of entry)) precedence listed_sites tt past (inl (p, i, t))) in
       subst (λ (b : Answer). b.sites ≤ most_listed) (sym e) (ltb-false most_listed (listed_count (job_of p)) few)
 
-  tells : (a : Answer) → HoldsAnswer entry exit a → told_whole (accepted a) ≡ r → Tells r (shown exit) (accepted a)
+  tells : (a : Answer) → HoldsAnswer entry exit a → TellsOf answer_counts (accepted a) r → Tells r (shown exit) (accepted a)
   tells a h e =
       record {
         told = e;
@@ -63,7 +65,7 @@ module _ (bs : List ℕ) (entry exit : AnswerCells) (r : Standardized) where
           answer (accepted c) = c
           answer (refused k) = a
 
-  tells_refused : (k : ℕ) → told_whole (refused k) ≡ r → Tells r (shown exit) (refused k)
+  tells_refused : (k : ℕ) → TellsOf answer_counts (refused k) r → Tells r (shown exit) (refused k)
   tells_refused k e =
       record {
         told = e;

@@ -3,15 +3,20 @@
 #![tactic(auto)]
 
 ghost use Rattle.std.specs.Prelude.{◌≡◌, length, take, IfOk};
-ghost use Rattle.definitions.specs.WholeCalls.{ReportPromise};
+ghost use Rattle.definitions.specs.WholeCalls.{ReportPromise, ReportWritten};
+ghost use Rattle.symmetrize_standardize.specs.Given.{answer_cells};
 ghost use Rattle.report.specs.Input.{input_bytes};
+ghost use Rattle.report.specs.Printed.{shown};
 ghost use Rattle.std.specs.Counts.{IsPrefixLen};
 
 use definitions::limits::{MOST_BYTES, MOST_LISTED, MOST_SITES};
+use definitions::{AnswerCounts, Refusal};
 use job_standardize::standardize_bytes;
+use report_text::lines::Columns;
 use report_text::{REPORT_BYTES, put_report};
 use std::io;
 use std::io::{Read, Write};
+use symmetrize_standardize::Answer;
 
 // one byte more than a job has at the most
 const INPUT_BYTES: usize = MOST_BYTES + 1;
@@ -21,6 +26,19 @@ fn input_buffer() -> [u8; INPUT_BYTES]
     ensures { input_bytes ≡ length result }
 {
     [0; INPUT_BYTES]
+}
+
+// The report of what is told of an answer, which is read here alone.
+fn put_answer(told: Result<AnswerCounts, Refusal>, answer: &Answer, text: &mut [u8]) -> usize
+    ensures { ReportWritten told (shown (answer_cells answer.now)) text.old text.new result }
+{
+    let columns = Columns {
+        mapping: answer.mapping,
+        labels: answer.labels,
+        multiplicities: answer.multiplicities,
+        letters: answer.letters,
+    };
+    put_report(told, &columns, text)
 }
 
 // The report of a job's bytes, and how many bytes of the text it is.
@@ -35,24 +53,21 @@ fn report_of(bytes: &[u8], text: &mut [u8; REPORT_BYTES]) -> usize
     let mut multiplicities = [0u16; MOST_LISTED];
     let mut letters = [0u8; MOST_LISTED];
     let mut primitive = [[0.0; 3]; MOST_SITES];
-    let mut primitive_basis = [[0.0; 3]; 3];
-    let mut listed_basis = [[0.0; 3]; 3];
-    let mut factors = [0i16; 3];
-    let result = standardize_bytes(
-        bytes,
-        &mut positions,
-        &mut points,
-        &mut mapping,
-        &mut elements,
-        &mut labels,
-        &mut multiplicities,
-        &mut letters,
-        &mut primitive,
-        &mut primitive_basis,
-        &mut listed_basis,
-        &mut factors,
-    );
-    put_report(result, &mapping, &labels, &multiplicities, &letters, text)
+    let mut answer = Answer {
+        positions: &mut positions,
+        points: &mut points,
+        mapping: &mut mapping,
+        elements: &mut elements,
+        labels: &mut labels,
+        multiplicities: &mut multiplicities,
+        letters: &mut letters,
+        primitive: &mut primitive,
+        primitive_cell_basis: &mut [[0.0; 3]; 3],
+        listed_cell_basis: &mut [[0.0; 3]; 3],
+        factors: &mut [0; 3],
+    };
+    let told = standardize_bytes(bytes, &mut answer);
+    put_answer(told, &answer, text)
 }
 
 // Reads until the buffer is full or the input has ended, and tells how many bytes stand in the buffer.

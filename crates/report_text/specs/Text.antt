@@ -1,9 +1,9 @@
 -- The report's text by what is told and the lists that are shown.
 use Rattle.std.specs.Prelude.{ℕ, ◌+◌, ◌*◌, List, [], ◌∷◌, ◌++◌, get_or}
-use Rattle.definitions.specs.declared.Standardized.{Standardized}
-use Rattle.definitions.specs.declared.Standardized.TheVariants.{Accepted, Refused}
+use Rattle.definitions.specs.declared.AnswerCounts.{AnswerCounts}
 use Rattle.definitions.specs.Limits.{most_listed}
 use Rattle.definitions.specs.Lists.{each, up_to}
+use Rattle.definitions.specs.Refusal.{Outcome, accepted, refused}
 use Rattle.definitions.specs.Report.{decimal, space, newline, refused_text, sites_text, orbits_text}
 use Rattle.definitions.specs.WholeCalls.{Shown}
 
@@ -32,9 +32,10 @@ header_text sites orbits = sites_text ++ decimal sites ++ orbits_text ++ decimal
 abbrev pub refusal_text : ℕ → List ℕ
 refusal_text k = refused_text ++ decimal k ++ (newline ∷ [])
 
-unfoldable pub shown_text : Standardized → Shown → List ℕ
-shown_text (Accepted sites orbits) s = header_text sites orbits ++ lines_text s sites
-shown_text (Refused k) s = refusal_text k
+-- by what is told: an answer's counts, or a refusal's number
+unfoldable pub shown_text : Outcome AnswerCounts → Shown → List ℕ
+shown_text (accepted c) s = header_text c.sites c.orbits ++ lines_text s c.sites
+shown_text (refused k) s = refusal_text k
 
 -- Room for every report: a header of two numbers and a line of four numbers a listed site, each number of at most 20
 -- digits.

@@ -2,27 +2,29 @@
 #![tactic(auto)]
 
 mod bytes;
-mod lines;
+pub mod lines;
 
 ghost use Rattle.std.specs.Prelude.{◌≡◌};
+ghost use Rattle.definitions.specs.Refusal.{number};
 ghost use Rattle.definitions.specs.WholeCalls.{ReportWritten};
+ghost use Rattle.report_text.specs.Columns.{shown_of};
 ghost use Rattle.report_text.specs.Putting.{Puts};
 ghost use Rattle.report_text.specs.Text.{header_text, refusal_text};
 
 use crate::bytes::Writer;
 use crate::lines::{Columns, put_lines};
-use definitions::Standardized;
 use definitions::limits::MOST_LISTED;
+use definitions::{AnswerCounts, Refusal};
 
 // Room for every report, as specs/Text.antt has it; proofs/Room.antt shows that it is.
 pub const REPORT_BYTES: usize = 55 + MOST_LISTED * 86;
 
-fn put_refusal(writer: &mut Writer, k: usize)
+fn put_refusal(writer: &mut Writer, refusal: Refusal)
     ensures same_bytes { writer.new.out.ghost_name ≡ writer.old.out.ghost_name }
-    ensures puts { Puts (refusal_text k) writer.old.at writer.old.out.now writer.new.out.now writer.new.at }
+    ensures puts { Puts (refusal_text (number refusal)) writer.old.at writer.old.out.now writer.new.out.now writer.new.at }
 {
     writer.bytes(b"refused ");
-    writer.decimal(k);
+    writer.decimal(usize::from(refusal));
     writer.byte(b'\n');
 }
 
@@ -38,38 +40,18 @@ fn put_header(writer: &mut Writer, sites: usize, orbits: usize)
 }
 
 // The count of the bytes that are the report's; behind them all is as it was.
-pub fn put_report(
-    res: Standardized,
-    mapping: &[u16],
-    labels: &[u16],
-    multiplicities: &[u16],
-    letters: &[u8],
-    out: &mut [u8],
-) -> usize
-    ensures { ReportWritten res
-        (record {
-          mapping = mapping.now;
-          labels = labels.now;
-          multiplicities = multiplicities.now;
-          letters = letters.now;
-        })
-        out.old out.new result }
+pub fn put_report(told: Result<AnswerCounts, Refusal>, columns: &Columns, out: &mut [u8]) -> usize
+    ensures { ReportWritten told (shown_of columns.now) out.old out.new result }
 {
     let mut writer = Writer { out, at: 0 };
-    match res {
-        Standardized::Refused(k) => {
-            put_refusal(&mut writer, k);
+    match told {
+        Err(refusal) => {
+            put_refusal(&mut writer, refusal);
             writer.at
         }
-        Standardized::Accepted(sites, orbits) => {
-            let columns = Columns {
-                mapping,
-                labels,
-                multiplicities,
-                letters,
-            };
+        Ok(AnswerCounts { sites, orbits }) => {
             put_header(&mut writer, sites, orbits);
-            put_lines(&mut writer, &columns, sites);
+            put_lines(&mut writer, columns, sites);
             writer.at
         }
     }

@@ -1,5 +1,6 @@
 // One line a listed site: site, primitive site, label, multiplicity, letter.
 ghost use Rattle.std.specs.Prelude.{◌≡◌, get_or};
+ghost use Rattle.report_text.specs.Columns.{shown_of};
 ghost use Rattle.report_text.specs.Putting.{Puts};
 ghost use Rattle.report_text.specs.Text.{field_text, letter_text, line_text, lines_text};
 
@@ -7,11 +8,11 @@ use crate::bytes::Writer;
 
 // What is shown of the listed sites, a list for each column; a list that ends early goes on with 0.
 #[derive(Clone, Copy)]
-pub(crate) struct Columns<'a> {
-    pub(crate) mapping: &'a [u16],
-    pub(crate) labels: &'a [u16],
-    pub(crate) multiplicities: &'a [u16],
-    pub(crate) letters: &'a [u8],
+pub struct Columns<'a> {
+    pub mapping: &'a [u16],
+    pub labels: &'a [u16],
+    pub multiplicities: &'a [u16],
+    pub letters: &'a [u8],
 }
 
 // what stands behind a list's end too
@@ -41,15 +42,7 @@ fn put_letter(writer: &mut Writer, letter: u8)
 
 fn put_line(writer: &mut Writer, columns: &Columns, j: usize)
     ensures same_bytes { writer.new.out.ghost_name ≡ writer.old.out.ghost_name }
-    ensures puts { Puts
-        (line_text
-        (record {
-          mapping = columns.now.mapping.now;
-          labels = columns.now.labels.now;
-          multiplicities = columns.now.multiplicities.now;
-          letters = columns.now.letters.now;
-        })
-        j)
+    ensures puts { Puts (line_text (shown_of columns.now) j)
         writer.old.at writer.old.out.now writer.new.out.now writer.new.at }
 {
     writer.decimal(j);
@@ -61,15 +54,7 @@ fn put_line(writer: &mut Writer, columns: &Columns, j: usize)
 
 pub(crate) fn put_lines(writer: &mut Writer, columns: &Columns, sites: usize)
     ensures same_bytes { writer.new.out.ghost_name ≡ writer.old.out.ghost_name }
-    ensures puts { Puts
-        (lines_text
-        (record {
-          mapping = columns.now.mapping.now;
-          labels = columns.now.labels.now;
-          multiplicities = columns.now.multiplicities.now;
-          letters = columns.now.letters.now;
-        })
-        sites)
+    ensures puts { Puts (lines_text (shown_of columns.now) sites)
         writer.old.at writer.old.out.now writer.new.out.now writer.new.at }
 {
     for j in 0..sites {

@@ -36,10 +36,7 @@ fn swap_down(seed: u32, list: &mut [u8])
 pub fn shuffle(seed: u32, n: usize, out: &mut [u8]) -> Verdict
     ensures { ShufflePromise seed n out.old out.new result }
 {
-    let v = identity(n, out);
-    match v {
-        Verdict::Accepted => swap_down(seed, &mut out[..n]),
-        Verdict::Refused(_) => {}
-    }
-    v
+    identity(n, out)?;
+    swap_down(seed, &mut out[..n]);
+    Ok(())
 }

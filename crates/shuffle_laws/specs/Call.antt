@@ -2,24 +2,25 @@
 use Rattle.std.specs.Prelude.{ℕ, ◌-◌, ◌≤◌, ◌<◌, ◌≡◌, refl, Bool, true, false, List, ◌↔◌, eqb, ltb, take, drop, replicate}
 use Rattle.std.proofs.Common.{sym, ap, ◌∙◌, arith, take_at, drop_at, ltb-true, ltb-false}
 use Rattle.std.proofs.Math.ListN.{length}
-use Rattle.definitions.specs.declared.Verdict.{Verdict}
-use Rattle.definitions.specs.declared.Verdict.TheVariants.{Accepted, Refused}
+use Rattle.std.specs.Prelude.{Err, Ok}
+use Rattle.definitions.specs.declared.Refusal.{Refusal}
+use Rattle.definitions.specs.declared.Refusal.TheVariants.{Counts, Buffer}
 use Rattle.definitions.specs.Lists.{count}
-use Rattle.definitions.specs.Refusal.{Checked, padded}
+use Rattle.definitions.specs.Refusal.{Verdict, Checked, padded}
 use Rattle.definitions.specs.Shuffle.{shuffled}
 use Rattle.definitions.specs.Calls.{shuffle_conditions, ShufflePromise}
 use Rattle.laws.specs.Order.{numbered}
 use Rattle.laws.proofs.Order.{checked_unique}
-use Rattle.laws.specs.Verdicts.{untested, is_true, is_false, verdict_of, checked}
+use Rattle.laws.specs.Verdicts.{untested, is_true, is_false, verdict_of, checked, same_number}
 use Rattle.base_permutation.specs.Bijection.{each_once}
 use Rattle.shuffle_laws.specs.Shuffled.{shuffled-permutes, length-shuffled}
 
 -- ---- which number: n is too large, or else the room is short, or else nothing
 
 data Decided (n room : ℕ) (v : Verdict) : Type 0 where
-  larger : 256 < n → v ≡ Refused 2 → Decided n room v
-  short : n ≤ 256 → room < n → v ≡ Refused 10 → Decided n room v
-  enough : n ≤ 256 → n ≤ room → v ≡ Accepted → Decided n room v
+  larger : 256 < n → v ≡ Err Counts → Decided n room v
+  short : n ≤ 256 → room < n → v ≡ Err Buffer → Decided n room v
+  enough : n ≤ 256 → n ≤ room → v ≡ Ok tt → Decided n room v
 
 decide : (n room : ℕ) (v : Verdict) → Checked (shuffle_conditions n room) v → Decided n room v
 unfolding numbered verdict_of
@@ -29,59 +30,48 @@ decide n room v c = by (ltb 256 n) refl (ltb room n) refl
     is w d = checked_unique (shuffle_conditions n room) tt v w c d
 
     by : (a : Bool) → ltb 256 n ≡ a → (b : Bool) → ltb room n ≡ b → Decided n room v
-    by true e b f = larger (ltb-true 256 n e) (is (Refused 2) (checked _ (is_true e, (untested, tt)) (Refused 2) refl))
+    by true e b f = larger (ltb-true 256 n e) (is (Err Counts) (checked _ (is_true e, (untested, tt)) (Err Counts) refl))
     by false e true f =
         short (ltb-false 256 n e) (ltb-true room n f)
-        (is (Refused 10) (checked _ (is_false e, (is_true f, tt)) (Refused 10) refl))
+        (is (Err Buffer) (checked _ (is_false e, (is_true f, tt)) (Err Buffer) refl))
     by false e false f =
         enough (ltb-false 256 n e) (ltb-false room n f)
-        (is Accepted (checked _ (is_false e, (is_false f, tt)) Accepted refl))
-
-number : Verdict → ℕ
-number Accepted = 0
-number (Refused k) = k
-
--- a verdict is one
-one : {v a b : Verdict} → v ≡ a → v ≡ b → number a ≡ number b
-one e f = ap number (sym e ∙ f)
+        (is (Ok tt) (checked _ (is_false e, (is_false f, tt)) (Ok tt) refl))
 
 module _ (seed n : ℕ) (entry exit : List ℕ) (v : Verdict) (p : ShufflePromise seed n entry exit v) where
   decided : Decided n (length entry) v
   decided = decide n (length entry) v p.0
 
   -- "A larger n is refused with 2", and nothing else is
-  pub larger_refused : (v ≡ Refused 2) ↔ (256 < n)
-  unfolding number
+  pub larger_refused : (v ≡ Err Counts) ↔ (256 < n)
   larger_refused = by decided
     where
-      by : Decided n (length entry) v → (v ≡ Refused 2) ↔ (256 < n)
+      by : Decided n (length entry) v → (v ≡ Err Counts) ↔ (256 < n)
       by (larger h e) = (λ f. h, λ l. e)
-      by (short h k e) = (λ f. absurd (omega (arith, one e f)), λ l. absurd (omega arith))
-      by (enough h k e) = (λ f. absurd (omega (arith, one e f)), λ l. absurd (omega arith))
+      by (short h k e) = (λ f. absurd (omega (arith, same_number e f)), λ l. absurd (omega arith))
+      by (enough h k e) = (λ f. absurd (omega (arith, same_number e f)), λ l. absurd (omega arith))
 
   -- "A lent buffer shorter than the answer": 10, where 2 does not apply
-  pub short_refused : (v ≡ Refused 10) ↔ ((n ≤ 256) × (length entry < n))
-  unfolding number
+  pub short_refused : (v ≡ Err Buffer) ↔ ((n ≤ 256) × (length entry < n))
   short_refused = by decided
     where
-      by : Decided n (length entry) v → (v ≡ Refused 10) ↔ ((n ≤ 256) × (length entry < n))
-      by (larger h e) = (λ f. absurd (omega (arith, one e f)), λ l. absurd (omega (arith, l.0)))
+      by : Decided n (length entry) v → (v ≡ Err Buffer) ↔ ((n ≤ 256) × (length entry < n))
+      by (larger h e) = (λ f. absurd (omega (arith, same_number e f)), λ l. absurd (omega (arith, l.0)))
       by (short h k e) = (λ f. (h, k), λ l. e)
-      by (enough h k e) = (λ f. absurd (omega (arith, one e f)), λ l. absurd (omega (arith, l.1)))
+      by (enough h k e) = (λ f. absurd (omega (arith, same_number e f)), λ l. absurd (omega (arith, l.1)))
 
   -- nothing else is refused
-  pub accepted_otherwise : (v ≡ Accepted) ↔ ((n ≤ 256) × (n ≤ length entry))
-  unfolding number
+  pub accepted_otherwise : (v ≡ Ok tt) ↔ ((n ≤ 256) × (n ≤ length entry))
   accepted_otherwise = by decided
     where
-      by : Decided n (length entry) v → (v ≡ Accepted) ↔ ((n ≤ 256) × (n ≤ length entry))
-      by (larger h e) = (λ f. absurd (omega (arith, one e f)), λ l. absurd (omega (arith, l.0)))
-      by (short h k e) = (λ f. absurd (omega (arith, one e f)), λ l. absurd (omega (arith, l.1)))
+      by : Decided n (length entry) v → (v ≡ Ok tt) ↔ ((n ≤ 256) × (n ≤ length entry))
+      by (larger h e) = (λ f. absurd (omega (arith, same_number e f)), λ l. absurd (omega (arith, l.0)))
+      by (short h k e) = (λ f. absurd (omega (arith, same_number e f)), λ l. absurd (omega (arith, l.1)))
       by (enough h k e) = (λ f. (h, k), λ l. e)
 
   -- "After a refusal all lent output is zero"
-  pub zero-after_refusal : (k : ℕ) → v ≡ Refused k → exit ≡ replicate (length entry) 0
-  zero-after_refusal k e =
+  pub zero-after_refusal : (r : Refusal) → v ≡ Err r → exit ≡ replicate (length entry) 0
+  zero-after_refusal r e =
       let all : length entry - 0 ≡ length entry = omega arith in
       p.1 ∙ rw e (ap (λ (m : ℕ). replicate m 0) all)
 

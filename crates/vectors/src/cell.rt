@@ -1,7 +1,7 @@
 // The call that lists the copies of sites: positions, points, mapping and elements.
 use crate::records::print_verdict;
 use crate::streams::Streams;
-use base_transformation::cell::list_sites;
+use base_transformation::cell::{Listing, list_sites};
 use std::io::{self, Read, Write};
 
 pub(crate) fn run_list<R: Read, W: Write>(streams: &mut Streams<R, W>) -> io::Result<()> {
@@ -12,15 +12,13 @@ pub(crate) fn run_list<R: Read, W: Write>(streams: &mut Streams<R, W>) -> io::Re
     let mut out_points = streams.lend()?;
     let mut mapping = streams.lend()?;
     let mut out_elements = streams.lend()?;
-    let v = list_sites(
-        c,
-        &elements,
-        &positions,
-        &mut out_positions,
-        &mut out_points,
-        &mut mapping,
-        &mut out_elements,
-    );
+    let mut listing = Listing {
+        positions: &mut out_positions,
+        points: &mut out_points,
+        mapping: &mut mapping,
+        elements: &mut out_elements,
+    };
+    let v = list_sites(c, &elements, &positions, &mut listing);
     print_verdict(streams, v)?;
     streams.show_all(&out_positions)?;
     streams.show_all(&out_points)?;

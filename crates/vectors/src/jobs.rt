@@ -1,13 +1,15 @@
 // Whole jobs: the call on bytes with its report, the call on lists, and the reader of a job's bytes.
 use crate::records::{Given, Shown, print_refused};
 use crate::streams::Streams;
-use definitions::{Basis, Cells, JobCounts, JobRead, Linear, Point, Rotation, Standardized, Text};
-use job::read_job;
+use definitions::{
+    AnswerCounts, Basis, Cells, JobCounts, Linear, Point, Position, Refusal, Rotation, Text,
+};
+use job::{JobLists, read_job};
 use job_standardize::standardize_bytes;
-use math_real::position::position_of;
+use report_text::lines::Columns;
 use report_text::put_report;
 use std::io::{self, Read, Write};
-use symmetrize_standardize::standardize;
+use symmetrize_standardize::{Answer, Job, standardize};
 
 // room for a report
 const REPORT: usize = 65600;
@@ -16,7 +18,7 @@ const REPORT: usize = 65600;
 
 // What a job has one of, and its lists.
 #[derive(Drop)]
-struct Job {
+struct JobVecs {
     lattice: Basis,
     t: Linear,
     shift: Cells,
@@ -26,17 +28,17 @@ struct Job {
     rotations: Vec<Rotation>,
     translations: Vec<Cells>,
     images: Vec<u8>,
-    target_rotations: Vec<Rotation>,
-    target_translations: Vec<Cells>,
+    rotations_of_targets: Vec<Rotation>,
+    translations_of_targets: Vec<Cells>,
     conventional: Vec<Rotation>,
-    candidates: Vec<u16>,
-    candidate_letters: Vec<u8>,
+    multiplicities: Vec<u16>,
+    letters: Vec<u8>,
     texts: Vec<Text>,
     symprec: f64,
 }
 
-fn read_given<R: Read, W: Write>(streams: &mut Streams<R, W>) -> io::Result<Job> {
-    Ok(Job {
+fn read_given<R: Read, W: Write>(streams: &mut Streams<R, W>) -> io::Result<JobVecs> {
+    Ok(JobVecs {
         lattice: streams.read()?,
         t: streams.read()?,
         shift: streams.read()?,
@@ -46,19 +48,19 @@ fn read_given<R: Read, W: Write>(streams: &mut Streams<R, W>) -> io::Result<Job>
         rotations: streams.read_list()?,
         translations: streams.read_list()?,
         images: streams.read_long()?,
-        target_rotations: streams.read_list()?,
-        target_translations: streams.read_list()?,
+        rotations_of_targets: streams.read_list()?,
+        translations_of_targets: streams.read_list()?,
         conventional: streams.read_list()?,
-        candidates: streams.read_list()?,
-        candidate_letters: streams.read_list()?,
+        multiplicities: streams.read_list()?,
+        letters: streams.read_list()?,
         texts: streams.read_list()?,
         symprec: streams.read()?,
     })
 }
 
 // lent to be read into
-fn lend_given<R: Read, W: Write>(streams: &mut Streams<R, W>) -> io::Result<Job> {
-    Ok(Job {
+fn lend_given<R: Read, W: Write>(streams: &mut Streams<R, W>) -> io::Result<JobVecs> {
+    Ok(JobVecs {
         lattice: Basis::SEVEN,
         t: Linear::SEVEN,
         shift: Cells::SEVEN,
@@ -67,29 +69,29 @@ fn lend_given<R: Read, W: Write>(streams: &mut Streams<R, W>) -> io::Result<Job>
         positions: streams.lend()?,
         rotations: streams.lend()?,
         translations: streams.lend()?,
-        images: streams.lend_long()?,
-        target_rotations: streams.lend()?,
-        target_translations: streams.lend()?,
+        images: streams.lend()?,
+        rotations_of_targets: streams.lend()?,
+        translations_of_targets: streams.lend()?,
         conventional: streams.lend()?,
-        candidates: streams.lend()?,
-        candidate_letters: streams.lend()?,
+        multiplicities: streams.lend()?,
+        letters: streams.lend()?,
         texts: streams.lend()?,
         symprec: f64::SEVEN,
     })
 }
 
 // what a job has one of, then the lists behind the images, then those before
-fn show_given<R: Read, W: Write>(streams: &mut Streams<R, W>, job: &Job) -> io::Result<()> {
+fn show_given<R: Read, W: Write>(streams: &mut Streams<R, W>, job: &JobVecs) -> io::Result<()> {
     streams.show(job.lattice)?;
     streams.show(job.t)?;
     streams.show(job.shift)?;
     streams.show(job.c)?;
     streams.show(job.symprec)?;
-    streams.show_all(&job.target_rotations)?;
-    streams.show_all(&job.target_translations)?;
+    streams.show_all(&job.rotations_of_targets)?;
+    streams.show_all(&job.translations_of_targets)?;
     streams.show_all(&job.conventional)?;
-    streams.show_all(&job.candidates)?;
-    streams.show_all(&job.candidate_letters)?;
+    streams.show_all(&job.multiplicities)?;
+    streams.show_all(&job.letters)?;
     streams.show_all(&job.texts)?;
     streams.show_all(&job.elements)?;
     streams.show_all(&job.positions)?;
@@ -101,7 +103,7 @@ fn show_given<R: Read, W: Write>(streams: &mut Streams<R, W>, job: &Job) -> io::
 // ---- an answer's lists
 
 #[derive(Drop)]
-struct Answer {
+struct AnswerVecs {
     positions: Vec<Cells>,
     points: Vec<Point>,
     mapping: Vec<u16>,
@@ -110,13 +112,31 @@ struct Answer {
     multiplicities: Vec<u16>,
     letters: Vec<u8>,
     primitive: Vec<Cells>,
-    primitive_basis: Basis,
-    listed_basis: Basis,
+    primitive_cell_basis: Basis,
+    listed_cell_basis: Basis,
     factors: [i16; 3],
 }
 
-fn lend_answer<R: Read, W: Write>(streams: &mut Streams<R, W>) -> io::Result<Answer> {
-    Ok(Answer {
+impl AnswerVecs {
+    fn lists(&mut self) -> Answer<'_> {
+        Answer {
+            positions: &mut self.positions,
+            points: &mut self.points,
+            mapping: &mut self.mapping,
+            elements: &mut self.elements,
+            labels: &mut self.labels,
+            multiplicities: &mut self.multiplicities,
+            letters: &mut self.letters,
+            primitive: &mut self.primitive,
+            primitive_cell_basis: &mut self.primitive_cell_basis,
+            listed_cell_basis: &mut self.listed_cell_basis,
+            factors: &mut self.factors,
+        }
+    }
+}
+
+fn lend_answer<R: Read, W: Write>(streams: &mut Streams<R, W>) -> io::Result<AnswerVecs> {
+    Ok(AnswerVecs {
         positions: streams.lend()?,
         points: streams.lend()?,
         mapping: streams.lend()?,
@@ -125,13 +145,16 @@ fn lend_answer<R: Read, W: Write>(streams: &mut Streams<R, W>) -> io::Result<Ans
         multiplicities: streams.lend()?,
         letters: streams.lend()?,
         primitive: streams.lend()?,
-        primitive_basis: Basis::SEVEN,
-        listed_basis: Basis::SEVEN,
+        primitive_cell_basis: Basis::SEVEN,
+        listed_cell_basis: Basis::SEVEN,
         factors: [7; 3],
     })
 }
 
-fn show_lists<R: Read, W: Write>(streams: &mut Streams<R, W>, answer: &Answer) -> io::Result<()> {
+fn show_lists<R: Read, W: Write>(
+    streams: &mut Streams<R, W>,
+    answer: &AnswerVecs,
+) -> io::Result<()> {
     streams.show_all(&answer.positions)?;
     streams.show_all(&answer.points)?;
     streams.show_all(&answer.mapping)?;
@@ -145,18 +168,18 @@ fn show_lists<R: Read, W: Write>(streams: &mut Streams<R, W>, answer: &Answer) -
 // what is said, and the answer's bases and factors
 fn show_said<R: Read, W: Write>(
     streams: &mut Streams<R, W>,
-    said: Standardized,
-    answer: &Answer,
+    said: Result<AnswerCounts, Refusal>,
+    answer: &AnswerVecs,
 ) -> io::Result<()> {
     match said {
-        Standardized::Accepted(sites, orbits) => {
+        Ok(AnswerCounts { sites, orbits }) => {
             streams.print(" accepted")?;
             streams.show([sites, orbits])?;
         }
-        Standardized::Refused(k) => print_refused(streams, k)?,
+        Err(refusal) => print_refused(streams, refusal)?,
     }
-    streams.show(answer.primitive_basis)?;
-    streams.show(answer.listed_basis)?;
+    streams.show(answer.primitive_cell_basis)?;
+    streams.show(answer.listed_cell_basis)?;
     streams.show(answer.factors)
 }
 
@@ -164,38 +187,24 @@ fn show_said<R: Read, W: Write>(
 
 fn show_report<R: Read, W: Write>(
     streams: &mut Streams<R, W>,
-    said: Standardized,
-    answer: &Answer,
+    said: Result<AnswerCounts, Refusal>,
+    answer: &AnswerVecs,
 ) -> io::Result<()> {
     let mut text = [0u8; REPORT];
-    let n = put_report(
-        said,
-        &answer.mapping,
-        &answer.labels,
-        &answer.multiplicities,
-        &answer.letters,
-        &mut text,
-    );
+    let columns = Columns {
+        mapping: &answer.mapping,
+        labels: &answer.labels,
+        multiplicities: &answer.multiplicities,
+        letters: &answer.letters,
+    };
+    let n = put_report(said, &columns, &mut text);
     streams.show_digits(&text[..n.min(REPORT)])
 }
 
 pub(crate) fn run_bytes<R: Read, W: Write>(streams: &mut Streams<R, W>) -> io::Result<()> {
     let bytes = streams.read_long()?;
     let mut answer = lend_answer(streams)?;
-    let said = standardize_bytes(
-        &bytes,
-        &mut answer.positions,
-        &mut answer.points,
-        &mut answer.mapping,
-        &mut answer.elements,
-        &mut answer.labels,
-        &mut answer.multiplicities,
-        &mut answer.letters,
-        &mut answer.primitive,
-        &mut answer.primitive_basis,
-        &mut answer.listed_basis,
-        &mut answer.factors,
-    );
+    let said = standardize_bytes(&bytes, &mut answer.lists());
     show_said(streams, said, &answer)?;
     show_report(streams, said, &answer)?;
     show_lists(streams, &answer)
@@ -206,35 +215,25 @@ pub(crate) fn run_bytes<R: Read, W: Write>(streams: &mut Streams<R, W>) -> io::R
 pub(crate) fn run_lists<R: Read, W: Write>(streams: &mut Streams<R, W>) -> io::Result<()> {
     let job = read_given(streams)?;
     let mut answer = lend_answer(streams)?;
-    let said = standardize(
-        job.lattice,
-        job.t,
-        position_of(job.shift),
-        job.c,
-        &job.elements,
-        &job.positions,
-        &job.rotations,
-        &job.translations,
-        &job.images,
-        &job.target_rotations,
-        &job.target_translations,
-        &job.conventional,
-        &job.candidates,
-        &job.candidate_letters,
-        &job.texts,
-        job.symprec,
-        &mut answer.positions,
-        &mut answer.points,
-        &mut answer.mapping,
-        &mut answer.elements,
-        &mut answer.labels,
-        &mut answer.multiplicities,
-        &mut answer.letters,
-        &mut answer.primitive,
-        &mut answer.primitive_basis,
-        &mut answer.listed_basis,
-        &mut answer.factors,
-    );
+    let given = Job {
+        lattice: job.lattice,
+        t: job.t,
+        shift: Position::from(job.shift),
+        c: job.c,
+        elements: &job.elements,
+        positions: &job.positions,
+        rotations: &job.rotations,
+        translations: &job.translations,
+        images: &job.images,
+        rotations_of_targets: &job.rotations_of_targets,
+        translations_of_targets: &job.translations_of_targets,
+        conventional: &job.conventional,
+        multiplicities: &job.multiplicities,
+        letters: &job.letters,
+        texts: &job.texts,
+        symprec: job.symprec,
+    };
+    let said = standardize(&given, &mut answer.lists());
     show_said(streams, said, &answer)?;
     show_lists(streams, &answer)
 }
@@ -256,28 +255,28 @@ fn show_counts<R: Read, W: Write>(streams: &mut Streams<R, W>, k: JobCounts) -> 
 pub(crate) fn run_read<R: Read, W: Write>(streams: &mut Streams<R, W>) -> io::Result<()> {
     let bytes = streams.read_long()?;
     let mut job = lend_given(streams)?;
-    let said = read_job(
-        &bytes,
-        &mut job.lattice,
-        &mut job.t,
-        &mut job.shift,
-        &mut job.c,
-        &mut job.elements,
-        &mut job.positions,
-        &mut job.rotations,
-        &mut job.translations,
-        &mut job.images,
-        &mut job.target_rotations,
-        &mut job.target_translations,
-        &mut job.conventional,
-        &mut job.candidates,
-        &mut job.candidate_letters,
-        &mut job.texts,
-        &mut job.symprec,
-    );
+    let mut lists = JobLists {
+        lattice: &mut job.lattice,
+        t: &mut job.t,
+        shift: &mut job.shift,
+        c: &mut job.c,
+        elements: &mut job.elements,
+        positions: &mut job.positions,
+        rotations: &mut job.rotations,
+        translations: &mut job.translations,
+        images: &mut job.images,
+        rotations_of_targets: &mut job.rotations_of_targets,
+        translations_of_targets: &mut job.translations_of_targets,
+        conventional: &mut job.conventional,
+        multiplicities: &mut job.multiplicities,
+        letters: &mut job.letters,
+        texts: &mut job.texts,
+        symprec: &mut job.symprec,
+    };
+    let said = read_job(&bytes, &mut lists);
     match said {
-        JobRead::Read(k) => show_counts(streams, k)?,
-        JobRead::Refused(k) => print_refused(streams, k)?,
+        Ok(k) => show_counts(streams, k)?,
+        Err(refusal) => print_refused(streams, refusal)?,
     }
     show_given(streams, &job)
 }

@@ -1,7 +1,8 @@
 // The label call of base/cell.rs: labels and multiplicities.
 use crate::records::print_verdict;
 use crate::streams::Streams;
-use base_cell::label_sites;
+use base_cell::verdicts::Labelling;
+use base_cell::{Orbits, label_sites};
 use std::io::{self, Read, Write};
 
 pub(crate) fn run_labels<R: Read, W: Write>(streams: &mut Streams<R, W>) -> io::Result<()> {
@@ -11,14 +12,17 @@ pub(crate) fn run_labels<R: Read, W: Write>(streams: &mut Streams<R, W>) -> io::
     let mapping = streams.read_list()?;
     let mut labels = streams.lend()?;
     let mut multiplicities = streams.lend()?;
-    let v = label_sites(
+    let labelling = Labelling {
         sites,
         count,
-        &images,
-        &mapping,
-        &mut labels,
-        &mut multiplicities,
-    );
+        images: &images,
+        mapping: &mapping,
+    };
+    let mut orbits = Orbits {
+        labels: &mut labels,
+        multiplicities: &mut multiplicities,
+    };
+    let v = label_sites(&labelling, &mut orbits);
     print_verdict(streams, v)?;
     streams.show_all(&labels)?;
     streams.show_all(&multiplicities)

@@ -1,7 +1,10 @@
 // The letter call of symmetrize/wyckoff.rs: labels, multiplicities and letters.
 use crate::records::print_verdict;
 use crate::streams::Streams;
+use base_cell::Orbits;
+use base_cell::verdicts::Labelling;
 use std::io::{self, Read, Write};
+use symmetrize_wyckoff::arguments::Lettering;
 use symmetrize_wyckoff::letter_sites;
 
 pub(crate) fn run_letters<R: Read, W: Write>(streams: &mut Streams<R, W>) -> io::Result<()> {
@@ -18,21 +21,25 @@ pub(crate) fn run_letters<R: Read, W: Write>(streams: &mut Streams<R, W>) -> io:
     let mut labels = streams.lend()?;
     let mut multiplicities = streams.lend()?;
     let mut letters = streams.lend()?;
-    let v = letter_sites(
-        sites,
-        count,
-        &images,
-        &mapping,
-        &positions,
+    let given = Lettering {
+        labelling: Labelling {
+            sites,
+            count,
+            images: &images,
+            mapping: &mapping,
+        },
+        positions: &positions,
         basis,
-        &candidates,
-        &candidate_letters,
-        &texts,
+        multiplicities: &candidates,
+        letters: &candidate_letters,
+        texts: &texts,
         symprec,
-        &mut labels,
-        &mut multiplicities,
-        &mut letters,
-    );
+    };
+    let mut orbits = Orbits {
+        labels: &mut labels,
+        multiplicities: &mut multiplicities,
+    };
+    let v = letter_sites(&given, &mut orbits, &mut letters);
     print_verdict(streams, v)?;
     streams.show_all(&labels)?;
     streams.show_all(&multiplicities)?;

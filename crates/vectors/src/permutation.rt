@@ -2,7 +2,7 @@
 use crate::records::{print_refused, print_verdict};
 use crate::streams::Streams;
 use base_permutation::{apply, identity, inverse, product};
-use definitions::{Image, PrimSite};
+use definitions::PrimSite;
 use shuffle::{shuffle, step};
 use std::io::{self, Read, Write};
 
@@ -18,8 +18,8 @@ pub(crate) fn run_apply<R: Read, W: Write>(streams: &mut Streams<R, W>) -> io::R
     let p = streams.read_list()?;
     let site = streams.read_number()?;
     match apply(&p, PrimSite(site)) {
-        Image::Site(s) => streams.show(s.0),
-        Image::Refused(k) => print_refused(streams, k),
+        Ok(s) => streams.show(s.0),
+        Err(refusal) => print_refused(streams, refusal),
     }
 }
 

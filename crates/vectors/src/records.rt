@@ -1,7 +1,7 @@
 // What records hold and lines show, for the program that runs vectors. Numbers are little-endian; past the end of the
 // input they are 0. Each word that is shown has a space in front.
 use crate::streams::Streams;
-use definitions::{Text, Verdict};
+use definitions::{Refusal, Text, Verdict};
 use job::operands::float_of;
 use std::io::{self, Read, Write};
 
@@ -169,10 +169,10 @@ impl<T: Shown, const N: usize> Shown for [T; N] {
 
 pub(crate) fn print_refused<R: Read, W: Write>(
     streams: &mut Streams<R, W>,
-    k: usize,
+    refusal: Refusal,
 ) -> io::Result<()> {
     streams.print(" refused")?;
-    streams.show(k)
+    streams.show(usize::from(refusal))
 }
 
 pub(crate) fn print_verdict<R: Read, W: Write>(
@@ -180,7 +180,7 @@ pub(crate) fn print_verdict<R: Read, W: Write>(
     v: Verdict,
 ) -> io::Result<()> {
     match v {
-        Verdict::Accepted => streams.print(" accepted"),
-        Verdict::Refused(k) => print_refused(streams, k),
+        Ok(()) => streams.print(" accepted"),
+        Err(refusal) => print_refused(streams, refusal),
     }
 }

@@ -1,7 +1,7 @@
 // The diagonalisation: D, L and R; and its passes.
 use crate::records::{Shown, print_refused, print_verdict};
 use crate::streams::Streams;
-use definitions::{Passes, SnfMatrix, Stages, Verdict, refusal};
+use definitions::{Passes, Refusal, SnfMatrix, Stages, Verdict};
 use math_snf::{passes, snf};
 use std::io::{self, Read, Write};
 
@@ -23,13 +23,13 @@ fn show_stages<R: Read, W: Write>(streams: &mut Streams<R, W>, s: Stages) -> io:
 pub(crate) fn run_passes<R: Read, W: Write>(streams: &mut Streams<R, W>) -> io::Result<()> {
     match passes(streams.read()?) {
         Passes::Counted(s) => {
-            print_verdict(streams, Verdict::Accepted)?;
+            print_verdict(streams, Ok(()))?;
             show_stages(streams, s)
         }
         Passes::Left(s) => {
-            print_refused(streams, refusal::DIAGONALISATION)?;
+            print_refused(streams, Refusal::Diagonalisation)?;
             show_stages(streams, s)
         }
-        Passes::Outside => print_refused(streams, refusal::MATRIX_ENTRY),
+        Passes::Outside => print_refused(streams, Refusal::MatrixEntry),
     }
 }

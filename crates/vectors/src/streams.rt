@@ -3,10 +3,8 @@ use crate::records::{Given, Shown};
 use std::alloc::Global;
 use std::io::{self, Read, Write};
 
-// The most entries of a list, and lent cells; of a long list, which is some more than a job's bytes may be.
-const MOST: usize = 1100;
-
-const MOST_LONG: usize = 65600;
+// The most entries of a list whose count is a size: some more than a job's bytes may be.
+const MOST: usize = 65600;
 
 #[derive(Drop)]
 pub(crate) struct Streams<R, W> {
@@ -57,32 +55,22 @@ impl<R: Read, W: Write> Streams<R, W> {
     // the count, then the entries
     pub(crate) fn read_list<T: Given>(&mut self) -> io::Result<Vec<T>> {
         let n = self.read_number()?;
-        self.read_entries(n.min(MOST))
+        self.read_entries(n)
     }
 
     // its count is a size
     pub(crate) fn read_long(&mut self) -> io::Result<Vec<u8>> {
         let n = self.read_size()?;
-        self.read_entries(n.min(MOST_LONG))
-    }
-
-    fn lend_cells<T: Shown>(&mut self, n: usize) -> io::Result<Vec<T>> {
-        let mut cells = Vec::new(self.alloc);
-        for _ in 0..n {
-            cells.push(T::SEVEN)?;
-        }
-        Ok(cells)
+        self.read_entries(n.min(MOST))
     }
 
     // Lent cells, no one of them zero: the record has their number.
     pub(crate) fn lend<T: Shown>(&mut self) -> io::Result<Vec<T>> {
-        let n = self.read_number()?;
-        self.lend_cells(n.min(MOST))
-    }
-
-    pub(crate) fn lend_long(&mut self) -> io::Result<Vec<u8>> {
-        let n = self.read_number()?;
-        self.lend_cells(n.min(MOST_LONG))
+        let mut cells = Vec::new(self.alloc);
+        for _ in 0..self.read_number()? {
+            cells.push(T::SEVEN)?;
+        }
+        Ok(cells)
     }
 
     pub(crate) fn print(&mut self, text: &str) -> io::Result<()> {

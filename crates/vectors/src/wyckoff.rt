@@ -1,44 +1,45 @@
 // The calls of symmetrize/wyckoff.rs on one candidate: its space, and its match with a position.
 use crate::records::{Shown, print_refused, print_verdict};
 use crate::streams::Streams;
-use data_wyckoff::space::prepare;
-use definitions::{Cells, Match, Matching, Rotation, SnfMatrix};
-use math_real::position::position_of;
+use data_wyckoff::space::{Space, prepare};
+use definitions::{Cells, Fit, Position, Rotation, SnfMatrix};
 use std::io::{self, Read, Write};
 use symmetrize_match::match_coordinates;
 
 pub(crate) fn run_prepare<R: Read, W: Write>(streams: &mut Streams<R, W>) -> io::Result<()> {
     let text = streams.read()?;
-    let mut matrix = Rotation::SEVEN;
-    let mut shift = Cells::SEVEN;
-    let mut d = SnfMatrix::SEVEN;
-    let mut l = SnfMatrix::SEVEN;
-    let mut r = SnfMatrix::SEVEN;
-    let v = prepare(&text, &mut matrix, &mut shift, &mut d, &mut l, &mut r);
+    let mut space = Space {
+        matrix: Rotation::SEVEN,
+        shift: Cells::SEVEN,
+        d: SnfMatrix::SEVEN,
+        l: SnfMatrix::SEVEN,
+        r: SnfMatrix::SEVEN,
+    };
+    let v = prepare(&text, &mut space);
     print_verdict(streams, v)?;
-    streams.show(matrix)?;
-    streams.show(shift)?;
-    streams.show([d, l, r])
+    streams.show(space.matrix)?;
+    streams.show(space.shift)?;
+    streams.show([space.d, space.l, space.r])
 }
 
-fn show_match<R: Read, W: Write>(streams: &mut Streams<R, W>, m: Match) -> io::Result<()> {
+fn show_match<R: Read, W: Write>(streams: &mut Streams<R, W>, m: Option<Fit>) -> io::Result<()> {
     match m {
-        Match::Fits(place, distance) => {
+        Some(Fit { place, distance }) => {
             streams.print(" fits")?;
             streams.show(place)?;
             streams.show(distance)
         }
-        Match::Misses => streams.print(" misses"),
+        None => streams.print(" misses"),
     }
 }
 
 pub(crate) fn run_match<R: Read, W: Write>(streams: &mut Streams<R, W>) -> io::Result<()> {
     let basis = streams.read()?;
-    let position = position_of(streams.read()?);
+    let position = Position::from(streams.read::<Cells>()?);
     let text = streams.read()?;
     let symprec = streams.read()?;
     match match_coordinates(basis, position, &text, symprec) {
-        Matching::Answered(m) => show_match(streams, m),
-        Matching::Refused(k) => print_refused(streams, k),
+        Ok(m) => show_match(streams, m),
+        Err(refusal) => print_refused(streams, refusal),
     }
 }

@@ -11,7 +11,7 @@ returns c =
       matching = r;
       promise =
           subst (λ p. MatchPromise a.basis.now p a.text.now a.symprec r)
-          c.position_of.ensures
+          c.from.ensures
           c.match_coordinates-r.ensures;
       number = c.tell_match.ensures.0;
       offset = c.tell_match.ensures.1;

@@ -1,15 +1,13 @@
 -- `hoistgarlic_standardize`: what the call on bytes promises, told in numbers.
+use Rattle.std.proofs.Common.{rules}
 use Rattle.hoistgarlic.proofs.hoistgarlic_standardize.Goals as goal
-use Rattle.hoistgarlic.proofs.hoistgarlic_standardize.Goals.{After-standardize_bytes-r, After-tell_standardized}
-
-abbrev called : After-tell_standardized → After-standardize_bytes-r
-called c = (goal.at.After-tell_standardized c).After-standardize_bytes-r
 
 pub returns : goal.returns
 returns c =
+    let told = c.standardize_bytes-told in
     record {
-      standardized = (called c).standardize_bytes-r.result;
-      promise = (called c).standardize_bytes-r.ensures;
+      standardized = told.result;
+      promise = search (rules, told.ensures.standardized);
       number = c.tell_standardized.ensures.0;
       sites = c.tell_standardized.ensures.1;
       orbits = c.tell_standardized.ensures.2;

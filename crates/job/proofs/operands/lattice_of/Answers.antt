@@ -7,4 +7,4 @@ use Rattle.job.proofs.operands.lattice_of.Goals as goal
 pub returns : goal.returns
 returns c =
     let a = c.args in
-    three-cons c.lattice_row-x.ensures c.lattice_row-y.ensures c.lattice_row-z.ensures ∙ lattice_is a.bytes.now
+    three-cons c.floats_at-x.ensures c.floats_at-y.ensures c.floats_at-z.ensures ∙ lattice_is a.bytes.now
