@@ -32,10 +32,10 @@ def closing(text, at, pair="{}"):
 def functions():
     """(file, line, name, parameters, result, contract, body) of each function."""
     for path, text in TEXT.items():
-        for m in re.finditer(r"\bfn (\w+)(<[^>]*>)?\(", text):
+        for m in re.finditer(r"\bfn (\w+)(<(?:[^>]|->)*>)?\(", text):
             end = closing(text, m.end() - 1, "()")
             params = [p for p in re.split(r",(?![^\[<]*[\]>])", text[m.end():end - 1]) if p.strip()]
-            head = re.match(r"\s*(?:->\s*([^\n{;]+))?", text[end:])
+            head = re.match(r"\s*(?:->\s*([^\n{]+))?", text[end:])
             at = end + head.end()
             while True:
                 clause = re.match(r"\s*(?:requires|ensures)\*?(?: \w+)? \{", text[at:])

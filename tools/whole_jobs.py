@@ -251,8 +251,7 @@ MATCHES = [
 MATCH_HEADER = """-- Matches with their places and distances, as the Rust gives them over the stand-in arithmetic. One table, and one
 -- proof over it.
 -- Made by tools/whole_jobs.py; not written by hand.
-use Rattle.std.specs.Prelude.{refl, List, [], ◌∷◌}
-use Rattle.definitions.specs.declared.Match.TheVariants.{Fits, Misses}
+use Rattle.std.specs.Prelude.{refl, List, [], ◌∷◌, Some, None}
 use Rattle.definitions.specs.Lists.{Each}
 use Rattle.definitions.specs.Job.{float}
 use Rattle.designs.specs.Evaluate.{Matched, MatchedRight, match_evaluated, matched}
@@ -268,10 +267,10 @@ def matches(oracle):
         words = [line.split() for line in out.splitlines()]
         found = [w for w in words if w[0] == "match"][0][2]
         listed_at = [w for w in words if w[0] == "site"][0][2:5]
-        value = "Misses"
+        value = "None"
         if found != "-":
             place, distance = found.split(":")
-            value = "Fits %s (float 0x%s)" % (place, distance)
+            value = "Some (record { place = %s; distance = float 0x%s })" % (place, distance)
         rows.append(("%s at %s, symprec %s" % (text, p, symprec),
                      "record { position = %s; text = %s; symprec = float 0x%s; match = %s }" % (
                          position(listed_at), numbers(text.encode().ljust(64)), struct.pack(">d", symprec).hex(), value)))
