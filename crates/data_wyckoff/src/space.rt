@@ -3,7 +3,8 @@ ghost use Rattle.std.specs.Prelude.{◌≡◌, set};
 ghost use Rattle.std.specs.List.{list_any};
 ghost use Rattle.definitions.specs.Limits.{shorter_than};
 ghost use Rattle.definitions.specs.SiteCalls.{PrepareAllPromise, space_rooms};
-ghost use Rattle.data_wyckoff.specs.Spaces.{SpaceOr, PreparesAs, lists, SameRooms, SameLists, written, PutSpace, first_of};
+ghost use Rattle.data_wyckoff.specs.Spaces.{SpaceOr, PreparesAs, lists, SameRooms, SameLists};
+ghost use Rattle.data_wyckoff.specs.Spaces.{written, PutSpace, first_of};
 ghost use Rattle.data_wyckoff.specs.Spaces.{PutSpaces, with_room, Judged, Cut};
 
 use crate::read_terms;

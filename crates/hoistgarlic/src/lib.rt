@@ -1,6 +1,6 @@
-// The calls under C names, for a program in C or Rust to link: `rt lib` in this folder. A slice is a pointer and a length
-// there, an array behind a reference a pointer. C has no struct of lent lists: each stays a parameter, and the structs
-// are made here.
+// The calls under C names, for a program in C or Rust to link: `rt lib` in this folder. A slice is a pointer and a
+// length there, an array behind a reference a pointer. C has no struct of lent lists: each stays a parameter, and the
+// structs are made here.
 #![tactic(auto)]
 
 ghost use Rattle.std.specs.Prelude.{◌≡◌};

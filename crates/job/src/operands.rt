@@ -19,8 +19,8 @@ pub(crate) fn bytes_at<const N: usize>(bytes: &[u8], at: usize) -> [u8; N]
     part
 }
 
-// Numbers of eight, four and two bytes: the library's `from_le_bytes` is each type's own, so that a trait of it would say
-// this line once a type as well.
+// Numbers of eight, four and two bytes: the library's `from_le_bytes` is each type's own, so that a trait of it would
+// say this line once a type as well.
 fn word_at(bytes: &[u8], at: usize) -> u64
     requires { at + 8 ≤ length bytes.now }
     ensures { result ≡ word8 bytes.now at }

@@ -43,7 +43,8 @@ fn legal_counts(bytes: &[u8]) -> Result<JobCounts, Refusal>
 
 // The call on the lists of a job that was read: apart, since they are only read here.
 fn standardize_lists(lists: &JobLists, answer: &mut Answer) -> Result<AnswerCounts, Refusal>
-    ensures standardized { ListsPromise (given_in lists.now) (answer_cells answer.old) (answer_cells answer.new) result }
+    ensures standardized { ListsPromise (given_in lists.now)
+        (answer_cells answer.old) (answer_cells answer.new) result }
     ensures same_answer { SameAnswer answer.old answer.new }
 {
     let job = Job {

@@ -21,7 +21,8 @@ pub const REPORT_BYTES: usize = 55 + MOST_LISTED * 86;
 
 fn put_refusal(writer: &mut Writer, refusal: Refusal)
     ensures same_bytes { writer.new.out.ghost_name ≡ writer.old.out.ghost_name }
-    ensures puts { Puts (refusal_text (number refusal)) writer.old.at writer.old.out.now writer.new.out.now writer.new.at }
+    ensures puts { Puts (refusal_text (number refusal))
+        writer.old.at writer.old.out.now writer.new.out.now writer.new.at }
 {
     writer.bytes(b"refused ");
     writer.decimal(usize::from(refusal));

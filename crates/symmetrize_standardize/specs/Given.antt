@@ -2,12 +2,10 @@
 use Rattle.std.specs.Prelude.{◌≡◌, take}
 use Rattle.definitions.specs.SiteCalls.{ListingCells, LabelArguments, SpaceCells}
 use Rattle.definitions.specs.WholeCalls.{Given, AnswerCells}
-use Rattle.symmetrize_wyckoff.specs.Given.{spaces_of}
-use Rattle.symmetrize_wyckoff.specs.declared.arguments.Placed.{Placed}
+use Rattle.symmetrize_wyckoff.specs.Lettering.{Placed}
 use Rattle.symmetrize_standardize.specs.declared.Job.{Job}
 use Rattle.symmetrize_standardize.specs.declared.Answer.{Answer}
 use Rattle.symmetrize_standardize.specs.declared.Work.{Work}
-use Rattle.symmetrize_standardize.specs.Stages.{Fitting}
 
 abbrev pub given_by : Job → Given
 given_by j =
@@ -67,8 +65,8 @@ abbrev pub labelling_of : Work → ListingCells → LabelArguments
 labelling_of w l =
     record { sites = w.sites; count = w.count; images = w.aligned.now; mapping = take w.listed l.mapping }
 
-abbrev pub fitting_of : Work → SpaceCells → ListingCells → Fitting
-fitting_of w s l =
+abbrev pub placed_in : Work → SpaceCells → ListingCells → Placed
+placed_in w s l =
     record {
       positions = take w.listed l.positions;
       basis = w.basis;
@@ -76,16 +74,4 @@ fitting_of w s l =
       candidates = w.multiplicities.now;
       letters = w.letters.now;
       spaces = s;
-    }
-
--- .. as the letters' step is given it
-abbrev pub fitting : Placed → Fitting
-fitting p =
-    record {
-      positions = p.positions.now;
-      basis = p.basis;
-      symprec = p.symprec;
-      candidates = p.candidates.now;
-      letters = p.letters.now;
-      spaces = spaces_of p;
     }

@@ -11,17 +11,17 @@ use Rattle.definitions.specs.Limits.{too_many_sites, not_some, too_many_candidat
 use Rattle.definitions.specs.Limits.{position_within, good_symprec, not_unimodular, copies, bad_copies, too_many_listed}
 use Rattle.definitions.specs.Limits.{shorter_than, most_copies}
 use Rattle.definitions.specs.Matrix.{Matrix}
-use Rattle.definitions.specs.Real.{RealMatrix}
 use Rattle.definitions.specs.Orbit.{orbits}
 use Rattle.definitions.specs.Calls.{PositionsPromise, PointsPromise}
 use Rattle.definitions.specs.SiteCalls.{ListingCells, CopiesListed, LabelArguments, LabelCells, LetterCells}
-use Rattle.definitions.specs.SiteCalls.{SpaceCells, AssignArguments, Assigned}
+use Rattle.definitions.specs.SiteCalls.{AssignArguments, Assigned}
 use Rattle.definitions.specs.Lent.{cells_within, unlike}
 use Rattle.definitions.specs.Standardize.{Rooms, Answer, IsAnswer}
 use Rattle.definitions.specs.WholeCalls.{Given, job_from, unlike_lists, lists_conditions, AnswerCells, rooms_of}
 use Rattle.definitions.specs.WholeCalls.{HoldsAnswer, answer_counts}
 use Rattle.math_matrix.specs.Laws.{Three}
 use Rattle.base_cell.specs.Grouping.{OrbitsLabelled}
+use Rattle.symmetrize_wyckoff.specs.Lettering.{Placed, assign_with}
 use Rattle.symmetrize_standardize.specs.declared.verdicts.Told.{Told}
 
 -- the verdict is the refusal r
@@ -131,36 +131,17 @@ pub record CellListed
   pub points : PointsPromise x.c none found pointed
   pub listed : CopiesListed x.c (take (copies x.c) found) x.elements (take (length x.positions) new) entry exit
 
--- What the letters are read off besides the labels: listed positions, the listed basis, candidates with their spaces.
-pub record Fitting : Type 0 where
-  pub positions : List (List Float)
-  pub basis : RealMatrix
-  pub symprec : Float
-  pub candidates : List ℕ
-  pub letters : List ℕ
-  pub spaces : SpaceCells
-
 -- with the first n labels and multiplicities
-abbrev pub assigning : Fitting → ℕ → LetterCells → AssignArguments
-assigning f n e =
-    record {
-      labels = take n e.labels;
-      multiplicities = take n e.multiplicities;
-      positions = f.positions;
-      basis = f.basis;
-      symprec = f.symprec;
-      candidates = f.candidates;
-      letters = f.letters;
-      spaces = f.spaces;
-    }
+abbrev pub assigning : Placed → ℕ → LetterCells → AssignArguments
+assigning p n e = assign_with p (take n e.labels) (take n e.multiplicities)
 
 abbrev pub label_cells : LetterCells → LabelCells
 label_cells e = record { labels = e.labels; multiplicities = e.multiplicities }
 
 -- Labels, multiplicities and letters of the sites of a mapping.
-pub record OrbitsLettered (x : LabelArguments) (f : Fitting) (entry exit : LetterCells) (whole : Bool) : Type 0 where
+pub record OrbitsLettered (x : LabelArguments) (p : Placed) (entry exit : LetterCells) (whole : Bool) : Type 0 where
   pub labels : OrbitsLabelled x (label_cells entry) (label_cells exit)
-  pub letters : Assigned (assigning f (length x.mapping) exit) entry.letters exit.letters whole
+  pub letters : Assigned (assigning p (length x.mapping) exit) entry.letters exit.letters whole
 
 -- what is told of it, with the number of listed sites
 abbrev pub told_by : Bool → ℕ → List ℕ → Result AnswerCounts Refusal
@@ -168,9 +149,9 @@ told_by whole listed labels =
     cond whole (Ok (record { sites = listed; orbits = (length (orbits (take listed labels))) })) (Err OrbitFit)
 
 -- of so many listed sites
-abbrev pub Finished : ℕ → LabelArguments → Fitting → LetterCells → LetterCells → Result AnswerCounts Refusal → Type 0
-Finished listed x f entry exit r =
-    (whole : Bool) × OrbitsLettered x f entry exit whole × (r ≡ told_by whole listed exit.labels)
+abbrev pub Finished : ℕ → LabelArguments → Placed → LetterCells → LetterCells → Result AnswerCounts Refusal → Type 0
+Finished listed x p entry exit r =
+    (whole : Bool) × OrbitsLettered x p entry exit whole × (r ≡ told_by whole listed exit.labels)
 
 -- ---- the whole
 

@@ -12,7 +12,7 @@ ghost use Rattle.base_cell.specs.Given.{orbit_cells, SameRooms, SameOrbits};
 ghost use Rattle.base_transformation.specs.Runs.{held};
 ghost use Rattle.data_wyckoff.specs.Spaces.{lists};
 ghost use Rattle.symmetrize_standardize.specs.Given.{given_by, answer_cells, SameAnswer};
-ghost use Rattle.symmetrize_standardize.specs.Given.{labelling_of, fitting_of};
+ghost use Rattle.symmetrize_standardize.specs.Given.{labelling_of, placed_in};
 ghost use Rattle.symmetrize_wyckoff.specs.Given.{letter_cells};
 ghost use Rattle.symmetrize_standardize.specs.Stages.{Finished, least_room, images_room, Uncleared};
 
@@ -130,7 +130,7 @@ fn letter(
     requires { (work.now.listed ≤ length listing.now.positions.now) × (work.now.listed ≤ length listing.now.mapping.now)
         × (work.now.listed ≤ length orbits.old.labels.now) × (work.now.listed ≤ length orbits.old.multiplicities.now) }
     ensures lettered { Finished work.now.listed
-        (labelling_of work.now (held listing.now)) (fitting_of work.now (lists spaces.now) (held listing.now))
+        (labelling_of work.now (held listing.now)) (placed_in work.now (lists spaces.now) (held listing.now))
         (letter_cells (orbit_cells orbits.old) letters.old) (letter_cells (orbit_cells orbits.new) letters.new) result }
     ensures rooms { SameRooms (orbit_cells orbits.old) (orbit_cells orbits.new) }
     ensures same_orbits { SameOrbits orbits.old orbits.new }

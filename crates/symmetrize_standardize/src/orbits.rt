@@ -4,7 +4,6 @@ ghost use Rattle.definitions.specs.declared.Refusal.TheVariants.{OrbitFit};
 ghost use Rattle.definitions.specs.Orbit.{orbits};
 ghost use Rattle.definitions.specs.SiteCalls.{Assigned};
 ghost use Rattle.base_cell.specs.Given.{arguments_of, orbit_cells, SameRooms, SameOrbits};
-ghost use Rattle.symmetrize_standardize.specs.Given.{fitting};
 ghost use Rattle.symmetrize_wyckoff.specs.Given.{placed_of, letter_cells};
 ghost use Rattle.symmetrize_wyckoff.specs.Lettering.{assign_with};
 ghost use Rattle.symmetrize_standardize.specs.Stages.{OrbitsLettered};
@@ -66,7 +65,7 @@ pub(crate) fn label_and_letter(
 ) -> Verdict
     requires { (length labelling.now.mapping.now ≤ length orbits.old.labels.now)
         × (length labelling.now.mapping.now ≤ length orbits.old.multiplicities.now) }
-    ensures lettered { OrbitsLettered (arguments_of labelling.now) (fitting placed.now)
+    ensures lettered { OrbitsLettered (arguments_of labelling.now) (placed_of placed.now)
         (letter_cells (orbit_cells orbits.old) letters.old)
         (letter_cells (orbit_cells orbits.new) letters.new) (is_ok result) }
     ensures refusal { IfErr result (λ r. r ≡ OrbitFit) }

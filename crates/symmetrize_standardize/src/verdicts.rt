@@ -4,7 +4,8 @@ ghost use Rattle.std.specs.Prelude.{◌≤◌, ◌≡◌, ◌||◌, length};
 ghost use Rattle.definitions.specs.Limits.{not_unimodular, bad_copies};
 ghost use Rattle.definitions.specs.WholeCalls.{unlike_lists};
 ghost use Rattle.symmetrize_standardize.specs.Given.{given_by};
-ghost use Rattle.symmetrize_standardize.specs.Stages.{list_counts, list_entries, list_floats, given_verdict, refused_with};
+ghost use Rattle.symmetrize_standardize.specs.Stages.{list_counts, list_entries, list_floats, given_verdict};
+ghost use Rattle.symmetrize_standardize.specs.Stages.{refused_with};
 ghost use Rattle.symmetrize_standardize.specs.Stages.{candidates_room, images_room, work_verdict, whole_verdict};
 
 use crate::Job;

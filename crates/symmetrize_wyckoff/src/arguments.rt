@@ -3,8 +3,8 @@ use base_cell::verdicts::Labelling;
 use definitions::{Basis, Cells, Rotation, SnfMatrix, Text};
 
 // What the step is given beside labels: the sites' positions, and of each candidate a multiplicity, a letter, M, q and
-// the Smith normal form. No struct of their own for the last five, since a field that is one takes no shorter loans; and
-// a lifetime for each of the three that callers lend.
+// the Smith normal form. No struct of their own for the last five, since a field that is one takes no shorter loans;
+// and a lifetime for each of the three that callers lend.
 #[derive(Clone, Copy)]
 pub struct Placed<'p, 'c, 's> {
     pub positions: &'p [Cells],

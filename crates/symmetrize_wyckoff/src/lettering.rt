@@ -5,7 +5,8 @@ ghost use Rattle.laws.specs.Verdicts.{Passed};
 ghost use Rattle.base_cell.specs.Given.{arguments_of, orbit_cells, SameRooms, SameOrbits};
 ghost use Rattle.data_wyckoff.specs.Spaces.{lists};
 ghost use Rattle.symmetrize_wyckoff.specs.Given.{letter_arguments_of, letter_cells, placed_of};
-ghost use Rattle.symmetrize_wyckoff.specs.Lettering.{AssignJudged, Labellable, LabelledJudged, LetterJudged, assign_with};
+ghost use Rattle.symmetrize_wyckoff.specs.Lettering.{AssignJudged, Labellable, LabelledJudged, LetterJudged};
+ghost use Rattle.symmetrize_wyckoff.specs.Lettering.{assign_with};
 ghost use Rattle.symmetrize_wyckoff.specs.Lettering.{first_spaces, placed_by, SpacesListed};
 
 use crate::arguments::{Lettering, Placed};
