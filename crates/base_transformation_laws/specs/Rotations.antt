@@ -6,19 +6,18 @@ use Rattle.std.proofs.Math.Path.{refl, ap}
 use Rattle.std.proofs.Common.{sym, subst, ◌∙◌}
 use Rattle.std.proofs.Math.Bool.{not}
 use borrow.Author.Tests.{eq-eqb}
-use Rattle.definitions.specs.Refusal.{Verdict}
-use Rattle.std.specs.Prelude.{Err, Ok}
+use Rattle.std.specs.Prelude.{Result, Err, Ok}
+use Rattle.definitions.specs.declared.Refusal.{Refusal}
 use Rattle.definitions.specs.declared.Refusal.TheVariants.{MatrixEntry}
 use Rattle.definitions.specs.Lists.{all}
-use Rattle.definitions.specs.Refusal.{Checked, lent_value}
-use Rattle.definitions.specs.Lent.{zero_matrix}
+use Rattle.definitions.specs.Refusal.{Verdict, Returns, Checked}
 use Rattle.definitions.specs.Limits.{in_range}
 use Rattle.definitions.specs.Matrix.{Matrix, identity, mul_m, transpose, det, inverse}
 use Rattle.definitions.specs.Transformation.{transform_rotation}
 use Rattle.definitions.specs.Calls.{transform_conditions, RotationPromise}
 use Rattle.laws.specs.Order.{numbered}
 use Rattle.laws.proofs.Order.{checked_unique}
-use Rattle.laws.specs.Verdicts.{untested, is_true, is_false, verdict_of, checked}
+use Rattle.laws.specs.Verdicts.{untested, is_true, is_false, verdict_of, checked, accepted_with}
 use Rattle.math_matrix.specs.Laws.{Three, mul_assoc, identity-mul, mul-identity, mul-inverse}
 use Rattle.math_matrix.specs.Laws.{det-inverse, unit-mul, inverse_product}
 
@@ -29,10 +28,14 @@ pub record UnimodularInRange (t : Matrix) : Type 0 where
 
 -- The call on T and R accepts with x: its promise allows that return, and no other.
 pub record Accepts (t r x : Matrix) : Type 0 where
-  pub promised : RotationPromise t r x (Ok tt)
-  pub only : (exit : Matrix) (v : Verdict) → RotationPromise t r exit v → (v ≡ (Ok tt)) × (exit ≡ x)
+  pub promised : RotationPromise t r (Ok x)
+  pub only : (o : Result Matrix Refusal) → RotationPromise t r o → o ≡ Ok x
 
 -- ---- the call accepts
+
+abbrev Fails : Verdict → Type 0
+Fails (Ok u) = ⊥
+Fails (Err k) = Unit {0}
 
 module _ (t r : Matrix) (h : UnimodularInRange t) (g : in_range r ≡ true) where
   past : Checked (transform_conditions t r) (Ok tt)
@@ -43,22 +46,25 @@ module _ (t r : Matrix) (h : UnimodularInRange t) (g : in_range r ≡ true) wher
       (is_false (ap not h.is_in_range), (is_false (ap not g), (is_false (ap not unimodular), tt)))
       (Ok tt) refl
 
-  told : (exit : Matrix) (v : Verdict) → RotationPromise t r exit v → (v ≡ (Ok tt)) × (exit ≡ transform_rotation t r)
-  unfolding numbered
-  told exit v p =
-      let e : v ≡ (Ok tt) = checked_unique (transform_conditions t r) tt v (Ok tt) p.0 past in
-      (e, p.1 ∙ ap (lent_value zero_matrix (transform_rotation t r)) e)
+  told : (o : Result Matrix Refusal) → RotationPromise t r o → o ≡ Ok (transform_rotation t r)
+  unfolding numbered Checked Returns
+  told (Ok x) p = ap Ok p.1
+  told (Err k) p = absurd (subst Fails (checked_unique (transform_conditions t r) tt (Err k) (Ok tt) p past) tt)
 
   -- with T⁻¹RT
   pub accepts : Accepts t r (transform_rotation t r)
-  accepts = record { promised = (past, refl); only = told }
+  accepts =
+      let x = transform_rotation t r in
+      let promised = accepted_with (transform_conditions t r) (λ (m : Matrix). m ≡ x) x past refl in
+      record { promised = promised; only = told }
 
   -- with what it returned
-  returned : (x : Matrix) (v : Verdict) → RotationPromise t r x v → Accepts t r x
-  returned x v p = subst (Accepts t r) (sym (told x v p).1) accepts
+  returned : (o : Result Matrix Refusal) → RotationPromise t r o → (x : Matrix) × (o ≡ Ok x) × Accepts t r x
+  returned o p = (transform_rotation t r, told o p, accepts)
 
 -- the one answer is T⁻¹RT
 answer : {t r x : Matrix} → Accepts t r x → x ≡ transform_rotation t r
+unfolding Returns
 answer a = a.promised.1
 
 -- ---- T⁻¹RT, in whole numbers
@@ -112,41 +118,44 @@ by_both t u r h g i j between first =
 -- second equals transforming it by the product, provided the rotation between the moves is in range."
 pub transformed_twice :
     (t u r : Matrix) → UnimodularInRange t → UnimodularInRange u → in_range (mul_m t u) ≡ true → in_range r ≡ true →
-    (between : Matrix) (v : Verdict) → RotationPromise t r between v →
-    in_range between ≡ true → (x : Matrix) × Accepts t r between × Accepts u between x × Accepts (mul_m t u) r x
-transformed_twice t u r h g i j between v p k =
-    let first = returned t r h j between v p in
-    (transform_rotation u between, first, accepts u between g k, by_both t u r h g i j between first)
+    (o : Result Matrix Refusal) → RotationPromise t r o →
+    (between : Matrix) × (o ≡ Ok between)
+    × (in_range between ≡ true → (x : Matrix) × Accepts t r between × Accepts u between x × Accepts (mul_m t u) r x)
+transformed_twice t u r h g i j o p =
+    let (between, e, first) = returned t r h j o p in
+    (between, e, λ k. (transform_rotation u between, first, accepts u between g k, by_both t u r h g i j between first))
 
 -- "A change and its inverse, both in range, restore the rotation, again if the rotation between them is in range": R
 -- has three rows of three, as its type says.
 pub transformed_back :
     (t r : Matrix) → Three r → UnimodularInRange t → in_range (inverse t) ≡ true → in_range r ≡ true →
-    (between : Matrix) (v : Verdict) → RotationPromise t r between v →
-    in_range between ≡ true → Accepts t r between × Accepts (inverse t) between r
-transformed_back t r shape h g j between v p k =
+    (o : Result Matrix Refusal) → RotationPromise t r o →
+    (between : Matrix) × (o ≡ Ok between)
+    × (in_range between ≡ true → Accepts t r between × Accepts (inverse t) between r)
+transformed_back t r shape h g j o p =
     let one : mul_m t (inverse t) ≡ identity = mul-inverse t h.unit in
     let unit = ap nat_abs (det-inverse t h.unit) ∙ h.unit in
     let both : in_range (mul_m t (inverse t)) ≡ true = ap in_range one ∙ identity_in_range in
-    let first = returned t r h j between v p in
+    let (between, e, first) = returned t r h j o p in
     let back : UnimodularInRange (inverse t) = record { is_in_range = g; unit = unit } in
     let direct = by_both t (inverse t) r h back both j between first in
     let same : transform_rotation (inverse t) between ≡ r =
     answer direct ∙ ap (λ (m : Matrix). transform_rotation m r) one ∙ by_identity r shape in
-    (first, subst (Accepts (inverse t) between) same (accepts (inverse t) between back k))
+    (between, e, λ k. (first, subst (Accepts (inverse t) between) same (accepts (inverse t) between back k)))
 
 -- "Where two rotations and their product are in range, transforming the product gives the product of the transformed
 -- ones", which need not be in range.
 pub product_transformed :
     (t r s : Matrix) → UnimodularInRange t → in_range r ≡ true → in_range s ≡ true → in_range (mul_m r s) ≡ true →
-    (x y : Matrix) (v w : Verdict) → RotationPromise t r x v → RotationPromise t s y w →
-    Accepts t r x × Accepts t s y × Accepts t (mul_m r s) (mul_m x y)
-product_transformed t r s h i j k x y v w p q =
-    let first = returned t r h i x v p in
-    let second = returned t s h j y w q in
+    (o o' : Result Matrix Refusal) → RotationPromise t r o → RotationPromise t s o' →
+    (x : Matrix) × (y : Matrix) × (o ≡ Ok x) × (o' ≡ Ok y)
+    × Accepts t r x × Accepts t s y × Accepts t (mul_m r s) (mul_m x y)
+product_transformed t r s h i j k o o' p q =
+    let (x, d, first) = returned t r h i o p in
+    let (y, e, second) = returned t s h j o' q in
     let same : transform_rotation t (mul_m r s) ≡ mul_m x y =
     of_product t r s h.unit ∙ (λ n. mul_m (sym (answer first) n) (sym (answer second) n)) in
-    (first, second, subst (Accepts t (mul_m r s)) same (accepts t (mul_m r s) h k))
+    (x, y, d, e, first, second, subst (Accepts t (mul_m r s)) same (accepts t (mul_m r s) h k))
 
 -- ---- what the order and the premises are for, by figures
 
@@ -174,13 +183,13 @@ order_matters = (refl, refl, refl)
 pub range_between_matters :
     let t = shear (pos 6) in
     UnimodularInRange t × (in_range (inverse t) ≡ true) × (in_range (mul_m t (inverse t)) ≡ true)
-    × RotationPromise (inverse t) (transform_rotation t fourfold) zero_matrix (Err MatrixEntry)
-unfolding all verdict_of
+    × RotationPromise (inverse t) (transform_rotation t fourfold) (Err MatrixEntry)
+unfolding all verdict_of Checked Returns
 range_between_matters =
     let t = shear (pos 6) in
     let conditions = transform_conditions (inverse t) (transform_rotation t fourfold) in (
       record { is_in_range = refl; unit = refl },
       refl,
       refl,
-      (checked conditions (is_false refl, (is_true refl, (untested, tt))) (Err MatrixEntry) refl, refl),
+      checked conditions (is_false refl, (is_true refl, (untested, tt))) (Err MatrixEntry) refl,
     )

@@ -10,18 +10,20 @@ use Rattle.definitions.specs.declared.PrimSite.{PrimSite}
 use Rattle.definitions.specs.declared.Refusal.{Refusal}
 use Rattle.definitions.specs.declared.Refusal.TheVariants.{MatrixEntry, Diagonalisation}
 use Rattle.definitions.specs.declared.Stages.{Stages}
+use Rattle.definitions.specs.declared.Snf.{Snf}
+use Rattle.definitions.specs.declared.Bases.{Bases}
 use Rattle.definitions.specs.declared.Passes.{Passes}
 use Rattle.definitions.specs.declared.Passes.TheVariants.{Counted, Left, Outside}
 use Rattle.definitions.specs.Lists.{all, each, up_to}
 use Rattle.definitions.specs.Refusal.{Condition, ◌when◌, counts, matrix_entry, float_range, site_image}
 use Rattle.definitions.specs.Refusal.{determinant, diagonalisation, buffer, target_rotation, lattice}
-use Rattle.definitions.specs.Refusal.{number, outcome, Verdict, Returns, Checked, lent_value, Filled, Promised}
+use Rattle.definitions.specs.Refusal.{number, outcome, Verdict, Returns, Checked, Filled}
 use Rattle.definitions.specs.Refusal.{Holds}
 use Rattle.definitions.specs.Limits.{too_many_sites, not_some, in_range, in_range_of_c, lattice_within}
 use Rattle.definitions.specs.Limits.{position_within, not_unimodular, copies, bad_copies, shorter_than}
 use Rattle.definitions.specs.Matrix.{Matrix}
 use Rattle.definitions.specs.Real.{RealMatrix}
-use Rattle.definitions.specs.Lent.{position_from, cells_of, zero_cells, zero_point, zero_matrix, zero_basis}
+use Rattle.definitions.specs.Lent.{position_from, cells_of, zero_cells, zero_point}
 use Rattle.definitions.specs.Lent.{cells_within, operations_from}
 use Rattle.definitions.specs.Lent.{unlike, permutations_of, bad_permutation_counts, bad_images}
 use Rattle.definitions.specs.Permutation.{image, is_permutation, inverse_image, after}
@@ -43,16 +45,13 @@ snf_conditions m = entry_outside m ∷ (diagonalisation when Leaves m) ∷ []
 abbrev pub IsSnf : Matrix → State → Type 0
 IsSnf m t = (r : Run m) × (r.third ≡ t)
 
-abbrev pub zero_state : State
-zero_state = record { d = zero_matrix; l = zero_matrix; r = zero_matrix }
+-- D, L and R as the code answers them
+abbrev pub state_of : Snf → State
+state_of s = record { d = s.d; l = s.l; r = s.r }
 
-abbrev pub SnfLent : Matrix → Verdict → State → Type 0
-SnfLent m (Ok u) t = IsSnf m t
-SnfLent m (Err r) t = t ≡ zero_state
-
--- D, L and R, lent, are those of the run of m
-abbrev pub SnfPromise : Matrix → State → Verdict → Type 0
-SnfPromise m t v = Checked (snf_conditions m) v × SnfLent m v t
+-- they are those of the run of m
+abbrev pub SnfPromise : Matrix → Result Snf Refusal → Type 0
+SnfPromise m r = Returns (snf_conditions m) (IsSnf m) (outcome state_of r)
 
 -- Request M-113 of document 02: how many passes each stage has.
 
@@ -83,10 +82,9 @@ centring_conditions c =
     ∷ []
 
 -- "Its three diagonal numbers are reported as the invariant factors": of C
-abbrev pub FactorsPromise : Matrix → List ℤ → Verdict → Type 0
-FactorsPromise c exit v =
-    Promised (centring_conditions c) (λ fs. (r : Run c) × (fs ≡ diagonal r.third.d))
-    (λ fs. exit ≡ fs) (exit ≡ zero_point) v
+abbrev pub FactorsPromise : Matrix → Result (List ℤ) Refusal → Type 0
+FactorsPromise c o =
+    Returns (centring_conditions c) (λ fs. (r : Run c) × (fs ≡ diagonal r.third.d)) (outcome (λ fs. fs) o)
 
 -- ---- base/permutation.rs
 
@@ -147,9 +145,9 @@ ShufflePromise seed n entry exit v = Filled 0 (shuffle_conditions n (length entr
 abbrev pub transform_conditions : Matrix → Matrix → List Condition
 transform_conditions t r = entry_outside t ∷ entry_outside r ∷ (determinant when T (not_unimodular t)) ∷ []
 
-abbrev pub RotationPromise : Matrix → Matrix → Matrix → Verdict → Type 0
-RotationPromise t r exit v =
-    Checked (transform_conditions t r) v × (exit ≡ lent_value zero_matrix (transform_rotation t r) v)
+abbrev pub RotationPromise : Matrix → Matrix → Result Matrix Refusal → Type 0
+RotationPromise t r o =
+    Returns (transform_conditions t r) (λ (m : Matrix). m ≡ transform_rotation t r) (outcome (λ m. m) o)
 
 -- the points of C into a list of this room: 3, 7, 8, 10
 abbrev pub points_conditions : Matrix → ℕ → List Condition
@@ -230,10 +228,11 @@ lattice_conditions l t c rs =
     ∷ (lattice when T (lattice_fails (conventional_basis l t c) rs))
     ∷ []
 
--- the new, the primitive and the listed basis, lent
-pub record LatticePromise
-    (l : RealMatrix) (t c : Matrix) (rs : List Matrix) (new primitive listed : RealMatrix) (v : Verdict) : Type 0 where
-  pub checked : Checked (lattice_conditions l t c rs) v
-  pub conventional : new ≡ lent_value zero_basis (new_of l t c rs) v
-  pub of_primitive : primitive ≡ lent_value zero_basis (primitive_of l t c rs) v
-  pub of_listed : listed ≡ lent_value zero_basis (listed_of l t c rs) v
+-- the new, the primitive and the listed basis
+abbrev pub bases_of : RealMatrix → Matrix → Matrix → List Matrix → Bases
+bases_of l t c rs =
+    record { conventional = new_of l t c rs; primitive = primitive_of l t c rs; listed = listed_of l t c rs }
+
+abbrev pub LatticePromise : RealMatrix → Matrix → Matrix → List Matrix → Result Bases Refusal → Type 0
+LatticePromise l t c rs r =
+    Returns (lattice_conditions l t c rs) (λ b. b ≡ bases_of l t c rs) (outcome (λ b. b) r)

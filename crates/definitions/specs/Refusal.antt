@@ -162,11 +162,6 @@ unfoldable pub Checked : List Condition → Verdict → Type 0
 unfolding Returns
 Checked cs v = Returns cs (λ (u : Unit {0}). Unit {0}) (outcome_of tt v)
 
--- A lent value after the call: the answer if it accepts, zero if it refuses.
-abbrev pub lent_value : {A : Type 0} → A → A → Verdict → A
-lent_value zero answer (Ok u) = answer
-lent_value zero answer (Err r) = zero
-
 -- a list at the front of so many cells, the others zero
 abbrev pub padded : {A : Type 0} → A → List A → ℕ → List A
 padded zero front room = front ++ replicate (room - length front) zero

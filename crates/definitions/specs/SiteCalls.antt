@@ -1,14 +1,14 @@
 -- The public calls on listed sites: to list, to label, to read and to prepare a candidate, to match, to letter.
 use Rattle.std.specs.Prelude.{ℕ, ◌*◌, ◌≡◌, Bool, cond, not, ◌&&◌, ◌||◌, List, [], ◌∷◌, map, length, get_or, T, ltb, ℤ, pos, Float}
 use Rattle.definitions.specs.declared.Position.{Position}
-use Rattle.std.specs.Prelude.{Option, Result, Ok, Err}
+use Rattle.std.specs.Prelude.{Option, Result}
 use Rattle.definitions.specs.declared.Fit.{Fit}
 use Rattle.definitions.specs.declared.Refusal.{Refusal}
 use Rattle.definitions.specs.Lists.{all, any, up_to, Some}
 use Rattle.definitions.specs.Refusal.{Condition, ◌when◌, counts, matrix_entry, float_range, site_image}
 use Rattle.definitions.specs.Refusal.{coordinates}
 use Rattle.definitions.specs.Refusal.{determinant, diagonalisation, listed_sites, buffer, orbit_fit}
-use Rattle.definitions.specs.Refusal.{Outcome, outcome, Verdict, Returns, Checked, Answered, Promised, Holds}
+use Rattle.definitions.specs.Refusal.{Outcome, outcome, Verdict, Returns, Answered, Promised, Holds}
 use Rattle.definitions.specs.Limits.{too_many_sites, too_many_candidates, most_copies, in_range_of_c, lattice_within}
 use Rattle.definitions.specs.Limits.{position_within, good_symprec, copies, bad_copies, too_many_listed, shorter_than}
 use Rattle.definitions.specs.Matrix.{Matrix}
@@ -24,7 +24,6 @@ use Rattle.definitions.specs.Wyckoff.{Space, IsSpace, AreSpaces, match_of, Choic
 use Rattle.definitions.specs.Wyckoff.{Unfit, sites_of, letter_of, letters}
 use Rattle.definitions.specs.Standardize.{BadCoordinates, TextLeaves}
 use Rattle.definitions.specs.Transformation.{is_none}
-use Rattle.definitions.specs.Calls.{zero_state}
 
 -- ---- base/cell.rs and `Transformation::transform_cell`: listed sites
 
@@ -175,29 +174,24 @@ LabelPromise x entry exit =
 abbrev pub text_conditions : List ℕ → List Condition
 text_conditions text = (coordinates when (Readable text → ⊥)) ∷ []
 
--- what the call that reads coordinates leaves: the rows and the origin of the tree that the text reads as, or zero
-abbrev pub CoordinatesLent : List ℕ → Matrix → List Float → Verdict → Type 0
-CoordinatesLent text m q (Ok u) = (t : Triplet) × Reads text t × (m ≡ rows t) × (q ≡ cells_of (origin_of t))
-CoordinatesLent text m q (Err r) = (m ≡ zero_matrix) × (q ≡ zero_cells)
-
--- Read the coordinates of a candidate.
-abbrev pub CoordinatesPromise : List ℕ → Matrix → List Float → Verdict → Type 0
-CoordinatesPromise text m q v = Checked (text_conditions text) v × CoordinatesLent text m q v
+-- Read the coordinates of a candidate: the rows and the origin of the tree that the text reads as.
+abbrev pub CoordinatesPromise : List ℕ → Result (Matrix × List Float) Refusal → Type 0
+CoordinatesPromise text o =
+    Returns (text_conditions text)
+    (λ (a : Matrix × List Float). (t : Triplet) × Reads text t × (a.0 ≡ rows t) × (a.1 ≡ cells_of (origin_of t)))
+    (outcome (λ a. a) o)
 
 -- Prepare a candidate (`WyckoffPositionSpace::new` with its diagonalisation): 6, 8
 abbrev pub prepare_conditions : List ℕ → List Condition
 prepare_conditions text = (coordinates when (Readable text → ⊥)) ∷ (diagonalisation when TextLeaves text) ∷ []
 
--- a space in lent matrices
+-- a space in matrices and cells
 abbrev pub space_from : Matrix → List Float → State → Space
 space_from m q s = record { matrix = m; shift = position_from q; snf = s }
 
-abbrev pub SpaceLent : List ℕ → Matrix → List Float → State → Verdict → Type 0
-SpaceLent text m q s (Ok u) = IsSpace text (space_from m q s) × (cells_of (position_from q) ≡ q)
-SpaceLent text m q s (Err r) = (m ≡ zero_matrix) × (q ≡ zero_cells) × (s ≡ zero_state)
-
-abbrev pub PreparePromise : List ℕ → Matrix → List Float → State → Verdict → Type 0
-PreparePromise text m q s v = Checked (prepare_conditions text) v × SpaceLent text m q s v
+-- the space of the text
+abbrev pub PreparePromise : List ℕ → Outcome Space → Type 0
+PreparePromise text = Returns (prepare_conditions text) (IsSpace text)
 
 -- The spaces of candidates in lent lists, one entry a candidate in each: M, q, D, L, R.
 pub record SpaceCells : Type 0 where

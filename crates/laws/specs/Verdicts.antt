@@ -9,7 +9,7 @@ use mathlib.Core.List.{List, [], ◌∷◌}
 use Rattle.std.proofs.Math.Option.{Option, none, some}
 use Rattle.std.proofs.Math.Dec.{T, eqb_refl}
 use Rattle.definitions.specs.Refusal.{Condition, Checked, Applies, NoneOf, upto, precedence, Outcome, accepted, refused, Returns, Answered, Promised}
-use Rattle.definitions.specs.Refusal.{number as number_of, outcome_of, TellsOf, Verdict}
+use Rattle.definitions.specs.Refusal.{number as number_of, outcome, outcome_of, TellsOf, Verdict}
 use Rattle.std.specs.Prelude.{get_or, ◌-◌, Result, Ok, Err, IsErrAnd}
 use Rattle.definitions.specs.declared.Refusal.{Refusal}
 use Rattle.definitions.specs.declared.Refusal.TheVariants.{
@@ -247,6 +247,17 @@ module _ {A : Type 0} (cs : List Condition) (Answer : A → Type 0) where
   pub accepted_with : (a : A) → Checked cs (Ok tt) → Answer a → Returns cs Answer (accepted a)
   unfolding Checked Returns
   accepted_with a e h = (e.0, h)
+
+-- the verdict of a call that answers a value
+abbrev pub verdict_in : {B : Type 0} → Result B Refusal → Verdict
+verdict_in (Ok b) = Ok tt
+verdict_in (Err r) = Err r
+
+module _ {A B : Type 0} (cs : List Condition) (Answer : A → Type 0) (f : B → A) where
+  pub checked_in : (r : Result B Refusal) → Returns cs Answer (outcome f r) → Checked cs (verdict_in r)
+  unfolding Checked Returns
+  checked_in (Ok b) h = (h.0, tt)
+  checked_in (Err r) h = h
 
 -- ---- an answer in several lent lists
 
