@@ -10,14 +10,13 @@ use Rattle.definitions.specs.declared.PrimSite.{PrimSite}
 use Rattle.definitions.specs.declared.Refusal.{Refusal}
 use Rattle.definitions.specs.declared.Refusal.TheVariants.{MatrixEntry, Diagonalisation}
 use Rattle.definitions.specs.declared.Stages.{Stages}
-use Rattle.definitions.specs.declared.Snf.{Snf}
 use Rattle.definitions.specs.declared.Bases.{Bases}
 use Rattle.definitions.specs.declared.Passes.{Passes}
 use Rattle.definitions.specs.declared.Passes.TheVariants.{Counted, Left, Outside}
 use Rattle.definitions.specs.Lists.{all, each, up_to}
 use Rattle.definitions.specs.Refusal.{Condition, ◌when◌, counts, matrix_entry, float_range, site_image}
 use Rattle.definitions.specs.Refusal.{determinant, diagonalisation, buffer, target_rotation, lattice}
-use Rattle.definitions.specs.Refusal.{number, outcome, Verdict, Returns, Checked, Filled}
+use Rattle.definitions.specs.Refusal.{number, Outcome, outcome, Verdict, Returns, Checked, Filled}
 use Rattle.definitions.specs.Refusal.{Holds}
 use Rattle.definitions.specs.Limits.{too_many_sites, not_some, in_range, in_range_of_c, lattice_within}
 use Rattle.definitions.specs.Limits.{position_within, not_unimodular, copies, bad_copies, shorter_than}
@@ -45,13 +44,9 @@ snf_conditions m = entry_outside m ∷ (diagonalisation when Leaves m) ∷ []
 abbrev pub IsSnf : Matrix → State → Type 0
 IsSnf m t = (r : Run m) × (r.third ≡ t)
 
--- D, L and R as the code answers them
-abbrev pub state_of : Snf → State
-state_of s = record { d = s.d; l = s.l; r = s.r }
-
--- they are those of the run of m
-abbrev pub SnfPromise : Matrix → Result Snf Refusal → Type 0
-SnfPromise m r = Returns (snf_conditions m) (IsSnf m) (outcome state_of r)
+-- D, L and R are those of the run of m
+abbrev pub SnfPromise : Matrix → Outcome State → Type 0
+SnfPromise m = Returns (snf_conditions m) (IsSnf m)
 
 -- Request M-113 of document 02: how many passes each stage has.
 

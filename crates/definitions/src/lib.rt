@@ -164,14 +164,6 @@ pub struct JobCounts {
     pub candidates: usize,
 }
 
-// A diagonalisation (moyo's `SNF`): D = L m R.
-#[derive(Clone, Copy)]
-pub struct Snf {
-    pub d: SnfMatrix,
-    pub l: SnfMatrix,
-    pub r: SnfMatrix,
-}
-
 // The bases of one lattice: of the conventional cell, of the primitive cell, and of the cell that is listed.
 #[derive(Clone, Copy)]
 pub struct Bases {

@@ -6,7 +6,7 @@ use Rattle.definitions.specs.Lists.{all, each}
 use Rattle.std.specs.Prelude.{Some, None}
 use Rattle.std.specs.Prelude as Prelude
 use Rattle.math_snf.specs.declared.line.Line.{Line}
-use Rattle.math_snf.specs.declared.Factors.{Factors}
+use Rattle.math_snf.specs.declared.SmithForm.{SmithForm}
 use Rattle.math_snf.specs.declared.Grade.{Grade}
 use Rattle.math_snf.specs.declared.Grade.TheVariants.{Idle, Cleared, Strayed}
 use Rattle.definitions.specs.Matrix.{Matrix, at, item, three, mat}
@@ -29,7 +29,7 @@ unfoldable pub kept_line : ℕ → ℤ → ℕ → List ℤ → List ℤ
 kept_line j k s x = three (λ b. cond (eqb b j) (kept (item x b -ℤ k *ℤ item x s)) (item x b))
 
 -- the code's state as the definition's
-abbrev pub state_of : Factors → State
+abbrev pub state_of : SmithForm → State
 state_of t = record { d = t.d; l = t.l; r = t.r }
 
 -- whether an assigned entry has left the range, and otherwise whether the pass has updated

@@ -16,17 +16,16 @@ ghost use Rattle.math_snf.specs.Step.{column_right, place_of, most_passes, Passe
 ghost use Rattle.math_snf.specs.Key.{key_at, pair_key, row_key, least_key};
 ghost use Rattle.definitions.specs.Calls.{SnfPromise, PassesPromise};
 ghost use Rattle.definitions.specs.Limits.{small};
+ghost use Rattle.definitions.specs.Refusal.{outcome};
 ghost use Rattle.math_snf.specs.declared.Grade.TheVariants.{Strayed};
 
 use checks::in_range;
-use definitions::{Linear, Passes, Refusal, SnfMatrix, Stages, Verdict};
+use definitions::{Linear, Passes, Refusal, SnfMatrix, Stages};
 use line::{FIRST, Line, SECOND, THIRD};
 use math_matrix::widened;
 
 // Past the key of every place. A number and no Option, so that the least of two keys is had without a branch.
 const NO_KEY: usize = 1000000;
-
-const ZERO: SnfMatrix = [[0; 3]; 3];
 
 const UNIT: SnfMatrix = [[1, 0, 0], [0, 1, 0], [0, 0, 1]];
 
@@ -243,12 +242,12 @@ fn graded(ok: bool, g: Grade) -> Grade
     if ok { g } else { Grade::Strayed }
 }
 
-// D, L and R as they stand
+// moyo's `SNF`: D = L m R. The steps take and leave D, L and R as they stand.
 #[derive(Clone, Copy)]
-struct Factors {
-    d: SnfMatrix,
-    l: SnfMatrix,
-    r: SnfMatrix,
+pub struct SmithForm {
+    pub d: SnfMatrix,
+    pub l: SnfMatrix,
+    pub r: SnfMatrix,
 }
 
 fn counted(first: usize, second: usize, third: usize) -> Stages
@@ -261,7 +260,7 @@ fn counted(first: usize, second: usize, third: usize) -> Stages
     }
 }
 
-impl Factors {
+impl SmithForm {
     #[tactic(auto, unfolding(definitions::specs::Snf::moved))]
     fn move_pivot(&mut self, s: Line, i: Line, j: Line)
         ensures { state_of self.new ≡ moved s.at (i.at, j.at) (state_of self.old) }
@@ -358,10 +357,10 @@ impl Factors {
     }
 
     // D = m, L and R the identity, and the three stages; one that has left the range is the last
-    fn run(m: Linear) -> Result<(Factors, Stages), Stages>
+    fn run(m: Linear) -> Result<(SmithForm, Stages), Stages>
         ensures { MatchResult result (λ a. RanIn m true a.1 (state_of a.0)) (λ n. LeftIn m n) }
     {
-        let mut t = Factors {
+        let mut t = SmithForm {
             d: widened(m),
             l: UNIT,
             r: UNIT,
@@ -371,41 +370,18 @@ impl Factors {
         let third = t.stage(THIRD).map_err(|n| counted(first, second, n))?;
         Ok((t, counted(first, second, third)))
     }
-
-    // to the lent matrices
-    fn write(self, d: &mut SnfMatrix, l: &mut SnfMatrix, r: &mut SnfMatrix)
-        ensures { record { d = d.new; l = l.new; r = r.new } ≡ state_of self }
-    {
-        let Factors { d: x, l: y, r: z } = self;
-        *d = x;
-        *l = y;
-        *r = z;
-    }
 }
 
-const NONE: Factors = Factors {
-    d: ZERO,
-    l: ZERO,
-    r: ZERO,
-};
-
 // moyo's `SNF::new`: D = L m R, or a refusal
-pub fn snf(m: Linear, d: &mut SnfMatrix, l: &mut SnfMatrix, r: &mut SnfMatrix) -> Verdict
-    ensures { SnfPromise m (record { d = d.new; l = l.new; r = r.new }) result }
+pub fn snf(m: Linear) -> Result<SmithForm, Refusal>
+    ensures { SnfPromise m (outcome state_of result) }
 {
     if !in_range(m) {
-        NONE.write(d, l, r);
         return Err(Refusal::MatrixEntry);
     }
-    match Factors::run(m) {
-        Ok((t, _)) => {
-            t.write(d, l, r);
-            Ok(())
-        }
-        Err(_) => {
-            NONE.write(d, l, r);
-            Err(Refusal::Diagonalisation)
-        }
+    match SmithForm::run(m) {
+        Ok((t, _)) => Ok(t),
+        Err(_) => Err(Refusal::Diagonalisation),
     }
 }
 
@@ -416,7 +392,7 @@ pub fn passes(m: Linear) -> Passes
     if !in_range(m) {
         return Passes::Outside;
     }
-    match Factors::run(m) {
+    match SmithForm::run(m) {
         Ok((_, n)) => Passes::Counted(n),
         Err(n) => Passes::Left(n),
     }

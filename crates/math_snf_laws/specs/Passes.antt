@@ -7,16 +7,15 @@ use Rattle.std.proofs.Math.Option.{none, some, some-injective}
 use Rattle.definitions.specs.Refusal.{Verdict}
 use Rattle.std.specs.Prelude.{Result, Err, Ok}
 use Rattle.definitions.specs.declared.Refusal.{Refusal}
-use Rattle.definitions.specs.declared.Snf.{Snf}
 use Rattle.definitions.specs.declared.Refusal.TheVariants.{MatrixEntry, Diagonalisation}
 use Rattle.definitions.specs.declared.Passes.{Passes}
 use Rattle.definitions.specs.declared.Passes.TheVariants.{Counted, Left, Outside}
 use Rattle.definitions.specs.Lists.{all}
 use Rattle.definitions.specs.Limits.{small, in_range}
-use Rattle.definitions.specs.Refusal.{Checked}
+use Rattle.definitions.specs.Refusal.{Checked, outcome}
 use Rattle.definitions.specs.Matrix.{Matrix}
-use Rattle.definitions.specs.Snf.{Run, all_assigned, Leaves, begun_of, passes_of}
-use Rattle.definitions.specs.Calls.{snf_conditions, IsSnf, state_of, SnfPromise, passes_told, PassesPromise}
+use Rattle.definitions.specs.Snf.{State, Run, all_assigned, Leaves, begun_of, passes_of}
+use Rattle.definitions.specs.Calls.{snf_conditions, IsSnf, SnfPromise, passes_told, PassesPromise}
 use Rattle.laws.specs.Order.{numbered}
 use Rattle.laws.proofs.Order.{checked_unique}
 use Rattle.laws.specs.Verdicts.{holds, fails, untested, is_true, is_false, verdict_of, checked}
@@ -116,11 +115,11 @@ stays_by r n = by (all small (all_assigned r)) refl
 
 module _ (m : Matrix) (p : Passes) (h : PassesPromise m p) where
   -- it is refused as `snf` is
-  pub refused_as_snf : (r : Result Snf Refusal) → SnfPromise m r → (passes_told p).0 ≡ verdict_in r
+  pub refused_as_snf :
+      {S : Type 0} (f : S → State) (r : Result S Refusal) → SnfPromise m (outcome f r) → (passes_told p).0 ≡ verdict_in r
   unfolding numbered
-  refused_as_snf r q =
-      checked_unique (snf_conditions m) tt (passes_told p).0 (verdict_in r) h.0
-      (checked_in (snf_conditions m) (IsSnf m) state_of r q)
+  refused_as_snf f r q =
+      checked_unique (snf_conditions m) tt (passes_told p).0 (verdict_in r) h.0 (checked_in (snf_conditions m) (IsSnf m) f r q)
 
   is_outside : in_range m ≡ false → p ≡ Outside
   is_outside e = is_judged (every m) p h ∙ rw e refl

@@ -7,7 +7,7 @@ use Rattle.definitions.specs.Matrix.{at}
 use Rattle.math_snf.proofs.Ints.{not_below_0, below_0}
 use Rattle.laws.specs.Lists.{list_all-is_all}
 use Rattle.math_snf.proofs.Grades.{signed_not, signed-graded}
-use Rattle.math_snf.proofs.Factors.sign.Goals as goal
+use Rattle.math_snf.proofs.SmithForm.sign.Goals as goal
 
 pub returns-then-self-s-ge0 : goal.returns-then-self-s-ge0
 returns-then-self-s-ge0 c =

@@ -7,7 +7,7 @@ use Rattle.math_snf.specs.declared.Grade.{Grade}
 use Rattle.math_snf.specs.declared.Grade.TheVariants.{Idle, Cleared, Strayed}
 use Rattle.math_snf.specs.Step.{worse}
 use Rattle.math_snf.proofs.Grades.{sweep_graded}
-use Rattle.math_snf.proofs.Factors.sweep.Goals as goal
+use Rattle.math_snf.proofs.SmithForm.sweep.Goals as goal
 
 -- the greater grade is that of both steps
 greater : (g h : Grade) → ord_max cmp-value.it g h ≡ worse g h

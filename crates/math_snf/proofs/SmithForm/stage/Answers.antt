@@ -2,8 +2,8 @@
 use Rattle.std.proofs.Common.{◌+◌, arith}
 use Rattle.math_snf.specs.Step.{state_of}
 use Rattle.math_snf.proofs.Stages.{At, passes_few, at_start, at_next, at_none, left_falls}
-use Rattle.math_snf.proofs.Factors.stage.Goals.{In-Some}
-use Rattle.math_snf.proofs.Factors.stage.Goals as goal
+use Rattle.math_snf.proofs.SmithForm.stage.Goals.{In-Some}
+use Rattle.math_snf.proofs.SmithForm.stage.Goals as goal
 
 next : (c : In-Some) → At c.args.s.at (state_of c.args.self.now) c.in-Some.grade (c.loop-grade.n + 1) (state_of c.one_pass.new.self)
 next c =

@@ -14,8 +14,8 @@ use Rattle.math_snf_laws.specs.Numbers.{none_is}
 use Rattle.math_snf.proofs.Ints.{zero_32}
 use Rattle.laws.specs.Lists.{list_all-is_all}
 use Rattle.math_snf.proofs.Grades.{graded_none, row_not, row-graded}
-use Rattle.math_snf.proofs.Factors.clear_row.Goals.{After-quotient-k}
-use Rattle.math_snf.proofs.Factors.clear_row.Goals as goal
+use Rattle.math_snf.proofs.SmithForm.clear_row.Goals.{After-quotient-k}
+use Rattle.math_snf.proofs.SmithForm.clear_row.Goals as goal
 
 is_quotient : (c : After-quotient-k) → c.quotient-k.result ≡ quot_z (at c.args.self.now.d c.args.i.at c.args.s.at) (at c.args.self.now.d c.args.s.at c.args.s.at)
 is_quotient c = search (rules, c.quotient-k.ensures)

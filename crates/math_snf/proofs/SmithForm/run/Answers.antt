@@ -7,8 +7,8 @@ use Rattle.definitions.specs.Matrix.{Matrix}
 use Rattle.definitions.specs.Snf.{start}
 use Rattle.math_snf.specs.Step.{state_of, EndedIn}
 use Rattle.math_snf.proofs.Stages.{ran_first, ran_second, ran_third, ran}
-use Rattle.math_snf.proofs.Factors.run.Goals.{After-map_err, After-map_err-2, After-map_err-3}
-use Rattle.math_snf.proofs.Factors.run.Goals as goal
+use Rattle.math_snf.proofs.SmithForm.run.Goals.{After-map_err, After-map_err-2, After-map_err-3}
+use Rattle.math_snf.proofs.SmithForm.run.Goals as goal
 
 -- what a stage's end says of s, its passes counted as f tells
 abbrev Told : Result ℕ Stages → (Bool → ℕ → Type 0) → (ℕ → Stages) → Type 0
