@@ -1,50 +1,45 @@
--- How many orbits there are: the sites before j that are their own label.
-use Prim.Native.Nat.{ℕ, ◌+◌, ◌≤◌}
-use mathlib.Core.Path.{◌≡◌, refl, sym, ap, ◌∙◌}
+-- How many orbits there are: the sites that are their own label.
+use Prim.Native.Nat.{ℕ, suc, ◌+◌}
+use mathlib.Core.Path.{◌≡◌, refl, sym, ap, ◌∙◌, subst}
 use mathlib.Core.Bool.{Bool, true, false, cond}
-use mathlib.Core.List.{List, [], ◌∷◌, ◌++◌}
+use mathlib.Core.List.{List, [], ◌∷◌, ◌++◌, append_assoc}
 use native.Mathlib.Omega.{arith}
 use native.Mathlib.Numerals.{add-one}
 use lib.ListN.{length, get_or, length-append}
+use lib.Seq.{get_or-append_seam}
 use lib.Dec.{eqb}
-use Rattle.definitions.specs.Lists.{those, up_from, up_to}
+use Rattle.std.specs.List.{filter, enumerate_from}
+use Rattle.definitions.specs.Lists.{those, up_from}
 use Rattle.definitions.specs.Orbit.{orbits}
-use Rattle.symmetrize_wyckoff.specs.Firsts.{those-append, up_to-more}
+use Rattle.symmetrize_standardize.specs.Stages.{own_labels}
 
--- of the first j sites
-abbrev pub own_label : List ℕ → ℕ → Bool
+abbrev own_label : List ℕ → ℕ → Bool
 own_label labels j = eqb (get_or labels j 0) j
 
-abbrev pub orbits_before : List ℕ → ℕ → List ℕ
-orbits_before labels j = those (own_label labels) (up_to j)
+-- a place with its label
+abbrev is_own : ℕ × ℕ → Bool
+is_own p = eqb p.1 p.0
 
-pub none_before : (labels : List ℕ) → 0 ≡ length (orbits_before labels 0)
+step :
+    (b c : Bool) → b ≡ c → (p : ℕ × ℕ) (j : ℕ) (ps : List (ℕ × ℕ)) (js : List ℕ) → length ps ≡ length js →
+    length (cond b (p ∷ ps) ps) ≡ length {A = ℕ} (elim c as (λ (x : Bool). List ℕ) [ true ↦ j ∷ js | false ↦ js ])
+step true c e p j ps js h = subst (λ c. length (p ∷ ps) ≡ length {A = ℕ} (elim c as (λ (x : Bool). List ℕ) [ true ↦ j ∷ js | false ↦ js ])) e (ap suc h)
+step false c e p j ps js h = subst (λ c. length ps ≡ length {A = ℕ} (elim c as (λ (x : Bool). List ℕ) [ true ↦ j ∷ js | false ↦ js ])) e h
+
+counted_from :
+    (pre xs : List ℕ) (n : ℕ) → n ≡ length pre →
+    length (filter is_own (enumerate_from n xs)) ≡ length (those (own_label (pre ++ xs)) (up_from n (length xs)))
 unfolding those up_from
-none_before labels = refl
+counted_from pre [] n h = refl
+counted_from pre (x ∷ xs) n h =
+    let here : eqb x n ≡ own_label (pre ++ x ∷ xs) n =
+    sym (ap (λ y. eqb y n) (ap (λ k. get_or (pre ++ x ∷ xs) k 0) h ∙ get_or-append_seam pre x xs 0)) in
+    let longer : n + 1 ≡ length (pre ++ x ∷ []) = omega (arith, h, length-append pre (x ∷ [])) in
+    let later = counted_from (pre ++ x ∷ []) xs (n + 1) longer in
+    step (eqb x n) (own_label (pre ++ x ∷ xs) n) here (n, x) n
+    (filter is_own (enumerate_from (n + 1) xs)) (those (own_label (pre ++ x ∷ xs)) (up_from (suc n) (length xs)))
+    (later ∙ (λ i. length (those (own_label (append_assoc pre (x ∷ []) xs i)) (up_from (add-one n i) (length xs)))))
 
-one_more : (labels : List ℕ) (j : ℕ) → orbits_before labels (j + 1) ≡ orbits_before labels j ++ those (own_label labels) (j ∷ [])
-one_more labels j = rw (add-one, up_to-more, those-append)
-
-alone : (t : ℕ → Bool) (j : ℕ) → length (those t (j ∷ [])) ≡ cond (t j) 1 0
-unfolding those
-alone t j = by (t j)
-  where
-    by : (b : Bool) → length {A = ℕ} (elim b as (λ (x : Bool). List ℕ) [ true ↦ j ∷ [] | false ↦ [] ]) ≡ cond b 1 0
-    by true = refl
-    by false = refl
-
-pub counted-more :
-    (labels : List ℕ) (j n r : ℕ) → n ≡ length (orbits_before labels j) → r ≡ cond (own_label labels j) 1 0 →
-    n + r ≡ length (orbits_before labels (j + 1))
-counted-more labels j n r e f =
-    (λ i. e i + (f ∙ sym (alone (own_label labels) j)) i)
-    ∙ sym (ap length (one_more labels j) ∙ length-append (orbits_before labels j) (those (own_label labels) (j ∷ [])))
-
--- at most one a site
-pub counted_few : (r : ℕ) (b : Bool) → r ≡ cond b 1 0 → r ≤ 1
-counted_few r true e = omega arith
-counted_few r false e = omega arith
-
-pub all-counted : (labels : List ℕ) (j n : ℕ) → n ≡ length (orbits_before labels j) → j ≡ length labels → n ≡ length (orbits labels)
+pub counted : (labels : List ℕ) → length (own_labels labels) ≡ length (orbits labels)
 unfolding orbits
-all-counted labels j n e h = e ∙ ap (λ i. length (orbits_before labels i)) h
+counted labels = counted_from [] labels 0 refl

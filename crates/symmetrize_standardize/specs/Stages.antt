@@ -2,6 +2,7 @@
 use Rattle.std.specs.Prelude.{ℕ, ◌*◌, ◌≤◌, ◌≡◌, Bool, false, not, ◌||◌, cond, List, length, take, eqb, min, ℤ, Float}
 use Rattle.definitions.specs.Refusal.{Verdict, TellsOf, number}
 use Rattle.std.specs.Prelude.{Result, Err, Ok}
+use Rattle.std.specs.List.{filter, enumerate_from}
 use Rattle.definitions.specs.declared.Refusal.{Refusal}
 use Rattle.definitions.specs.declared.Refusal.TheVariants.{Counts, MatrixEntry, FloatRange, SiteImage, Coordinates, Determinant, Diagonalisation, ListedSites, Buffer, TargetRotation, Lattice, OrbitFit}
 use Rattle.definitions.specs.declared.AnswerCounts.{AnswerCounts}
@@ -130,6 +131,10 @@ pub record CellListed
   pub room : length none ≡ most_copies
   pub points : PointsPromise x.c none found pointed
   pub listed : CopiesListed x.c (take (copies x.c) found) x.elements (take (length x.positions) new) entry exit
+
+-- the sites that are their own label, each with its place
+abbrev pub own_labels : List ℕ → List (ℕ × ℕ)
+own_labels labels = filter (λ p. eqb p.1 p.0) (enumerate_from 0 labels)
 
 -- with the first n labels and multiplicities
 abbrev pub assigning : Placed → ℕ → LetterCells → AssignArguments

@@ -1,12 +1,12 @@
 // The orbits of the listed sites: their labels, their letters and how many there are.
-ghost use Rattle.std.specs.Prelude.{◌≤◌, ◌≡◌, cond, eqb, length, take, is_ok, IfErr};
+ghost use Rattle.std.specs.Prelude.{◌≤◌, ◌≡◌, length, take, is_ok, IfErr};
 ghost use Rattle.definitions.specs.declared.Refusal.TheVariants.{OrbitFit};
 ghost use Rattle.definitions.specs.Orbit.{orbits};
 ghost use Rattle.definitions.specs.SiteCalls.{Assigned};
 ghost use Rattle.base_cell.specs.Given.{arguments_of, orbit_cells, SameRooms, SameOrbits};
 ghost use Rattle.symmetrize_wyckoff.specs.Given.{placed_of, letter_cells};
 ghost use Rattle.symmetrize_wyckoff.specs.Lettering.{assign_with};
-ghost use Rattle.symmetrize_standardize.specs.Stages.{OrbitsLettered};
+ghost use Rattle.symmetrize_standardize.specs.Stages.{OrbitsLettered, own_labels};
 
 use base_cell::verdicts::Labelling;
 use base_cell::{Orbits, label_orbits};
@@ -14,30 +14,23 @@ use definitions::Verdict;
 use symmetrize_wyckoff::arguments::Placed;
 use symmetrize_wyckoff::assign_wyckoffs_by_orbit;
 
-// 1 where the site j is its own label
-fn own_label(label: u16, j: usize) -> usize
-    ensures { result ≡ cond (eqb label j) 1 0 }
+// How many sites are their own label.
+fn count_own(labels: &[u16]) -> usize
+    ensures { result ≡ length (own_labels labels.now) }
 {
-    usize::from(usize::from(label) == j)
+    labels
+        .iter()
+        .enumerate()
+        .filter(|(j, label)| usize::from(**label) == *j)
+        .count()
 }
 
-// An orbit has one site that is its label.
-fn count_orbits(labels: &[u16]) -> usize
-    ensures { result ≡ length (orbits labels.now) }
-{
-    let mut count: usize = 0;
-    for (j, label) in labels.iter().enumerate() {
-        count += own_label(*label, j);
-    }
-    count
-}
-
-// The orbits of the first n sites.
+// The orbits of the first n sites: each has one that is its label.
 pub(crate) fn orbits_of(n: usize, lists: &Orbits) -> usize
     requires { n ≤ length lists.now.labels.now }
     ensures { result ≡ length (orbits (take n lists.now.labels.now)) }
 {
-    count_orbits(&lists.labels[..n])
+    count_own(&lists.labels[..n])
 }
 
 // moyo's `assign_wyckoffs_by_orbit` over labels just given: apart, since the lists are only read here.
