@@ -4,6 +4,8 @@
 ghost use Rattle.std.specs.Prelude.{◌≡◌, length, take, replicate, pos};
 ghost use Rattle.definitions.specs.Refusal.{padded};
 ghost use Rattle.definitions.specs.Real.{zero_f};
+ghost use Rattle.definitions.specs.Lists.{any};
+ghost use Rattle.definitions.specs.Limits.{shorter_than};
 
 // What a lent cell holds where there is no answer: of a number 0, of a float +0, of an array each entry's.
 pub trait Zero: Copy {
@@ -65,8 +67,16 @@ pub fn clear<T: Zero>(out: &mut [T], n: usize)
     ensures { out.new ≡ padded T.ZERO (take n out.old) (length out.old) }
 {
     if n < out.len() {
+        // no `fill`, which clones: of a type that is `Copy` a clone may still fail, or be another value
         for x in &mut out[n..] {
             *x = T::ZERO;
         }
     }
+}
+
+// Whether one of the lists that are lent, of these lengths, is shorter than the answer.
+pub fn lacks_room<const N: usize>(answer: usize, rooms: [usize; N]) -> bool
+    ensures { result ≡ any (shorter_than answer) rooms.entry }
+{
+    rooms.iter().any(|room| *room < answer)
 }
