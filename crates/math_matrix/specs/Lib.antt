@@ -4,3 +4,4 @@ pub mod Exprs
 pub mod Laws
 pub mod Bounds
 pub mod Rows
+pub mod Entries

@@ -1,30 +1,41 @@
-// Matrices of whole numbers, three rows of three: widening, determinant, adjugate, inverse, a change of basis.
-// Entries have 16 bits, cofactors 32 and sums 64, so that the types keep every number in range.
+// Matrices, three rows of three: columns, wider entries, and of whole numbers the determinant, the adjugate, the inverse
+// and a change of basis. Entries have 16 bits, cofactors 32 and sums 64, so that the types keep every number in range.
 #![tactic(auto)]
 
 ghost use Rattle.std.specs.Prelude.{◌≡◌, ℕ, ◌≤◌, [], get_or, nat_abs, ◌*ℤ◌};
-ghost use Rattle.definitions.specs.Matrix.{item, three, minor, transpose, unit, mul_m};
+ghost use Rattle.std.specs.List.{AllZip};
+ghost use Rattle.definitions.specs.Matrix.{item, three, minor, unit, mul_m};
 ghost use Rattle.definitions.specs.Matrix.{det as det_of, adjugate as adjugate_of};
 ghost use Rattle.definitions.specs.Matrix.{inverse as inverse_of, apply as apply_of};
+ghost use Rattle.math_matrix.specs.Entries.{transposed_by};
 ghost use Rattle.math_matrix.specs.Rows.{cross_of, dot_of};
 
 use definitions::{Cofactors, Integers, Linear, Point, Rotation, SnfMatrix};
 
-fn wide_row(x: [i8; 3]) -> [i16; 3]
-    ensures { result ≡ x }
+fn wider_row<S, T: From<S>>(x: [S; 3]) -> [T; 3]
+    ensures { AllZip T.from_gives x result }
 {
-    x.map(i16::from)
+    let [a, b, c] = x;
+    [T::from(a), T::from(b), T::from(c)]
+}
+
+// Each entry as a number of a wider type.
+pub fn wider<S, T: From<S>>(m: [[S; 3]; 3]) -> [[T; 3]; 3]
+    ensures { AllZip (AllZip T.from_gives) m result }
+{
+    let [p, q, r] = m;
+    [wider_row(p), wider_row(q), wider_row(r)]
 }
 
 pub fn widened(m: Rotation) -> SnfMatrix
     ensures { result ≡ m }
 {
-    m.map(wide_row)
+    wider(m)
 }
 
 // The columns of m.
-fn transposed(m: SnfMatrix) -> SnfMatrix
-    ensures { result ≡ transpose m }
+pub fn transposed<T: Copy>(m: [[T; 3]; 3]) -> [[T; 3]; 3]
+    ensures { (z : T) → result ≡ transposed_by z m }
 {
     let [p, q, r] = m;
     [[p[0], q[0], r[0]], [p[1], q[1], r[1]], [p[2], q[2], r[2]]]
@@ -119,18 +130,6 @@ pub fn inverse(m: SnfMatrix) -> Cofactors
 
 // ---- another basis
 
-fn long_row(x: [i16; 3]) -> [i32; 3]
-    ensures { result ≡ x }
-{
-    x.map(i32::from)
-}
-
-fn long(m: SnfMatrix) -> Cofactors
-    ensures { result ≡ m }
-{
-    m.map(long_row)
-}
-
 // `narrow_row` and `short_row` stay two: `as` has no generic form, and `TryFrom` has an error that cannot come here.
 fn narrow_row(x: [i64; 3]) -> [i32; 3]
     requires { (j : ℕ) → nat_abs (item x j) ≤ 2147483647 }
@@ -186,7 +185,7 @@ pub fn transform_by(i: SnfMatrix, t: SnfMatrix, r: Rotation) -> Integers
     ensures { result ≡ mul_m (mul_m i r) t }
 {
     // 16 bits times 8 are small enough to be narrowed; row by row, as above
-    let [a, b, c] = times(long(i), widened(r));
+    let [a, b, c] = times(wider(i), widened(r));
     let r0 = narrow_row(a);
     let r1 = narrow_row(b);
     let r2 = narrow_row(c);

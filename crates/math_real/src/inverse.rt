@@ -3,8 +3,8 @@ ghost use Rattle.std.specs.Prelude.{◌≡◌};
 ghost use Rattle.definitions.specs.Real.{det_f, inverse_f};
 ghost use Rattle.math_real.specs.Rows.{cross_over};
 
-use crate::matrix;
 use definitions::Basis;
+use math_matrix::transposed;
 
 pub fn determinant(m: Basis) -> f64
     ensures { result ≡ det_f m }
@@ -40,10 +40,10 @@ pub fn inverse(m: Basis) -> Basis
     ensures { result ≡ inverse_f m }
 {
     let d = determinant(m);
-    let t = matrix::transpose(m);
+    let [a, b, c] = transposed(m);
     [
-        cross_over(t[1], t[2], d),
-        cross_over(t[2], t[0], d),
-        cross_over(t[0], t[1], d),
+        cross_over(b, c, d),
+        cross_over(c, a, d),
+        cross_over(a, b, d),
     ]
 }

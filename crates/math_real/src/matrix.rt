@@ -1,6 +1,6 @@
-// Matrices row by row: product, transpose, sum, quotient, the third row's sign, whether all entries are finite.
+// Matrices row by row: product, sum, quotient, the third row's sign, whether all entries are finite.
 ghost use Rattle.std.specs.Prelude.{◌≡◌};
-ghost use Rattle.definitions.specs.Real.{mul_f, transpose_f, add_m, is_finite};
+ghost use Rattle.definitions.specs.Real.{mul_f, add_m, is_finite};
 ghost use Rattle.math_real.specs.Rows.{row_times, add_row, divide_row, divide_m};
 ghost use Rattle.math_real.specs.Rows.{negate_third_row, finite_row, all_finite};
 
@@ -24,16 +24,6 @@ pub fn product(a: Basis, b: Basis) -> Basis
     ensures { result ≡ mul_f a b }
 {
     [row_times(a[0], b), row_times(a[1], b), row_times(a[2], b)]
-}
-
-pub fn transpose(m: Basis) -> Basis
-    ensures { result ≡ transpose_f m }
-{
-    [
-        [m[0][0], m[1][0], m[2][0]],
-        [m[0][1], m[1][1], m[2][1]],
-        [m[0][2], m[1][2], m[2][2]],
-    ]
 }
 
 fn row_sum(a: [f64; 3], b: [f64; 3]) -> [f64; 3]

@@ -5,6 +5,7 @@ use mir.Val.{SFits}
 use Prim.Native.Nat.{ℕ}
 use Rattle.definitions.specs.Matrix.{Matrix, at, mul_m}
 use Rattle.math_matrix.specs.Bounds.{abs_fits}
+use Rattle.math_matrix.specs.Entries.{same_entries}
 use Rattle.math_matrix.proofs.Shape.{good_entry}
 use Rattle.math_matrix.proofs.Sizes.{Bound, product_small}
 use Rattle.math_matrix.proofs.transform_by.Goals as goal
@@ -19,12 +20,12 @@ module _ {i r a b p : Matrix} (d : a ≡ i) (e : b ≡ r) (f : p ≡ mul_m a b) 
 
 pub narrow_row-r0-requires : goal.narrow_row-r0-requires
 narrow_row-r0-requires c =
-    small c.long.ensures c.widened.ensures c.times.ensures (good_entry w16 c.args.i c.well_formed.0) (good_entry w8 c.args.r c.well_formed.1.1.0) 0
+    small (same_entries c.args.i c.wider.result c.wider.ensures) c.widened.ensures c.times.ensures (good_entry w16 c.args.i c.well_formed.0) (good_entry w8 c.args.r c.well_formed.1.1.0) 0
 
 pub narrow_row-r1-requires : goal.narrow_row-r1-requires
 narrow_row-r1-requires c =
-    small c.long.ensures c.widened.ensures c.times.ensures (good_entry w16 c.args.i c.well_formed.0) (good_entry w8 c.args.r c.well_formed.1.1.0) 1
+    small (same_entries c.args.i c.wider.result c.wider.ensures) c.widened.ensures c.times.ensures (good_entry w16 c.args.i c.well_formed.0) (good_entry w8 c.args.r c.well_formed.1.1.0) 1
 
 pub narrow_row-r2-requires : goal.narrow_row-r2-requires
 narrow_row-r2-requires c =
-    small c.long.ensures c.widened.ensures c.times.ensures (good_entry w16 c.args.i c.well_formed.0) (good_entry w8 c.args.r c.well_formed.1.1.0) 2
+    small (same_entries c.args.i c.wider.result c.wider.ensures) c.widened.ensures c.times.ensures (good_entry w16 c.args.i c.well_formed.0) (good_entry w8 c.args.r c.well_formed.1.1.0) 2
