@@ -61,7 +61,7 @@ pub fn divide(m: Basis, by: f64) -> Basis
 pub fn negate_third_row(m: Basis) -> Basis
     ensures { result ≡ negate_third_row m }
 {
-    [m[0], m[1], [-m[2][0], -m[2][1], -m[2][2]]]
+    [m[0], m[1], m[2].map(|x| -x)]
 }
 
 fn finite(x: f64) -> bool
