@@ -1,11 +1,11 @@
 -- What a float's pattern says of its case, and of what it is rounded to.
-use Rattle.std.specs.Prelude.{ℕ, zero, suc, ◌+◌, ◌*◌, ◌-◌, ◌/◌, ◌%◌, ◌^◌, ◌≤◌, ◌<◌, ◌≡◌, refl, Bool, T, eqb, Float}
+use Rattle.std.specs.Prelude.{ℕ, zero, suc, ◌+◌, ◌*◌, ◌-◌, ◌/◌, ◌%◌, ◌^◌, ◌≤◌, ◌<◌, ◌≡◌, refl, Bool, T, Float}
 use Rattle.std.proofs.Math.Path.{sym, ap}
 use Rattle.std.proofs.Common.{◌∙◌, subst, inl, inr, arith, lt_of_lt_of_le, lt_of_le_of_lt, lt_of_not-le, div-le_self, pow-add, pow_pos, pow_mono, shl_lt}
 use Rattle.std.proofs.Math.Nat.{mod-le}
 use Rattle.std.proofs.Math.Decide.{dec_le}
 use Rattle.std.specs.Float.Ieee.{binary64, round, fits, of_bits}
-use Rattle.std.specs.Float.Ieee.Bits.{of_bits-to_bits, to_bits-lt}
+use Rattle.std.specs.Float.Ieee.Bits.{of_bits-to_bits}
 use Rattle.definitions.specs.Real.{units_of, negative, round_away}
 use Rattle.math_round.specs.Cases as Cases
 use Rattle.math_round.specs.Cases.{Within, HalfWay, Nearest, Tie}
@@ -13,7 +13,7 @@ use Rattle.math_round.proofs.OneCase.{ordinary}
 use Rattle.math_round.specs.Cases.{rest_below, rest_above, rest-half, whole_within}
 use Rattle.math_round.specs.Rounded.{whole_is_its_own, nearest_is_rounded, tie_is_rounded}
 use Rattle.math_round.specs.declared.pattern.Parts.{Parts}
-use Rattle.math_round.specs.Pattern.{sign_of, field_of, digits_of, one_of, parts_of, units_at, finite_pattern, zero_pattern, infinite_pattern, other_pattern, whole_pattern, sign_pattern, bits_of, signed, Parted}
+use Rattle.math_round.specs.Pattern.{sign_of, field_of, digits_of, one_of, parts_of, units_at, finite_pattern, zero_pattern, infinite_pattern, other_pattern, whole_pattern, bits_of, signed, Parted}
 
 -- ---- below it
 
@@ -121,11 +121,8 @@ module _ (x : Float) (f : T (fits binary64 x)) (s : Cases.Special x → ⊥) whe
       by (yes h) = absurd (s (infinite_is_special x f h))
       by (no n) = omega (arith, lt_of_not-le n)
 
-  sign_is : eqb (sign_of (bits_of x)) 1 ≡ negative x
-  sign_is =
-      sign_pattern (bits_of x) (to_bits-lt binary64 x f)
-      ∙ sym (finite_pattern (bits_of x) below_infinity).sign
-      ∙ ap negative (own x f)
+  sign_is : sign_of (bits_of x) ≡ negative x
+  sign_is = sym (finite_pattern (bits_of x) below_infinity).sign ∙ ap negative (own x f)
 
   near : (n : ℕ) → Within (2 ^ 1074) (units_of x) n → Nearest x
   near n h = record { finite = (ordinary x s).0; not_zero = (ordinary x s).1; n = n; near = h }
@@ -158,7 +155,6 @@ module _ (x : Float) (f : T (fits binary64 x)) (s : Cases.Special x → ⊥) whe
         low = λ l. nearest_signed (parts_of b).whole (k.low l);
         high = λ l. nearest_signed (suc (parts_of b).whole) (k.high l);
         half = λ l. tie_signed (parts_of b).whole (k.half l);
-        few_sign = omega (arith, to_bits-lt binary64 x f);
         few_whole = lt_of_le_of_lt (div-le_self (digits_of b) (one_of b)) few;
         few_rest = lt_of_le_of_lt (mod-le (digits_of b) (one_of b)) few;
       }

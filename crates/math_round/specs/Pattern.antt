@@ -1,9 +1,7 @@
 -- A float by the fields of its bit pattern: the sign, the exponent's field, the digits. What they say of its case.
 use Rattle.std.specs.Prelude.{ℕ, zero, suc, ◌+◌, ◌*◌, ◌-◌, ◌/◌, ◌%◌, ◌^◌, ◌≤◌, ◌<◌, ◌≡◌, refl, Bool, true, false, cond, ◌⊎◌, T, eqb, leb, Float}
 use Rattle.std.proofs.Math.Path.{sym, ap}
-use Rattle.std.proofs.Common.{◌∙◌, subst, inl, inr, arith, mul-div_cancel, mul-pos, mul_assoc, lt_of_not-le, eq-eqb, ne_eqb, le-leb, pow-add, pow_pos}
-use Rattle.std.proofs.Math.Decide.{dec_le}
-use Rattle.std.proofs.lemmas.Bool.{lt-leb}
+use Rattle.std.proofs.Common.{◌∙◌, subst, inl, inr, arith, mul-div_cancel, mul-pos, mul_assoc, eq-eqb, ne_eqb, pow-add, pow_pos}
 use Rattle.std.specs.Float.{nan, inf, fin}
 use Rattle.std.specs.Float.Ieee.{binary64, down, odd, of_fields, round, of_bits, to_bits}
 use Rattle.std.specs.Float.Ieee.Fits.{down_pos}
@@ -15,8 +13,9 @@ use Rattle.math_round.specs.declared.pattern.Parts.{Parts}
 use Rattle.math_round.specs.declared.pattern.Magnitude.{Magnitude}
 use Rattle.math_round.specs.declared.pattern.Magnitude.TheVariants.{Special, Whole, Split}
 
-abbrev pub sign_of : ℕ → ℕ
-sign_of b = b / 2 ^ 63
+-- whether it is minus: the highest bit
+abbrev pub sign_of : ℕ → Bool
+sign_of b = leb (2 ^ 63) b
 
 abbrev pub field_of : ℕ → ℕ
 field_of b = b % 2 ^ 63 / 2 ^ 52
@@ -122,30 +121,20 @@ whole_pattern b h l = (finite_pattern b l).units ∙ at (field_of b) (b % 2 ^ 52
         ∙ ap (λ (y : ℕ). (2 ^ 52 + t) * y) (pow-add 2 (suc x - 1075) 1074)
         ∙ sym (mul_assoc (2 ^ 52 + t) (2 ^ (suc x - 1075)) (2 ^ 1074))
 
--- ---- below it
-
-pub sign_pattern : (b : ℕ) → b < 2 ^ 64 → eqb (sign_of b) 1 ≡ leb (2 ^ 63) b
-sign_pattern b h = by (dec_le (2 ^ 63) b)
-  where
-    by : Dec (2 ^ 63 ≤ b) → eqb (b / 2 ^ 63) 1 ≡ leb (2 ^ 63) b
-    by (yes l) = eq-eqb (b / 2 ^ 63) 1 (omega arith) ∙ sym (le-leb (2 ^ 63) b l)
-    by (no n) = let l = lt_of_not-le n in ne_eqb (b / 2 ^ 63) 1 (λ e. omega arith) ∙ sym (lt-leb (2 ^ 63) b l)
-
 -- ---- the cases of a float by its own pattern
 
 abbrev pub bits_of : Float → ℕ
 bits_of x = to_bits binary64 x
 
 -- what `signed_whole` makes of n and a sign
-abbrev pub signed : ℕ → ℕ → Float
-signed g n = round binary64 (eqb g 1) n 1
+abbrev pub signed : Bool → ℕ → Float
+signed g n = round binary64 g n 1
 
 -- what the parts of a magnitude say of x, and what it is rounded to
 pub record Parted (x : Float) (p : Parts) : Type 0 where
   pub low : 2 * p.rest < p.one → Nearest x × (signed p.sign p.whole ≡ round_away x)
   pub high : p.one < 2 * p.rest → Nearest x × (signed p.sign (suc p.whole) ≡ round_away x)
   pub half : 2 * p.rest ≡ p.one → Tie x × (signed p.sign (suc p.whole) ≡ round_away x)
-  pub few_sign : p.sign < 2
   pub few_whole : p.whole < 2 ^ 53
   pub few_rest : p.rest < 2 ^ 53
 

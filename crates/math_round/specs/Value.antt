@@ -1,8 +1,9 @@
 -- `round_away` depends on a float's value alone; the sign of a rounded number and its pattern.
 use Prim.Native.Nat.{ℕ, zero, suc, ◌+◌, ◌*◌, ◌-◌, ◌/◌, ◌%◌, ◌^◌, ◌≤◌, ◌<◌, compare}
-use Rattle.std.specs.Prelude.{◌≡◌, refl, Bool, true, false, not, cond, T, eqb, ltb, Float}
+use Rattle.std.specs.Prelude.{◌≡◌, refl, Bool, true, false, not, cond, T, ltb, Float}
 use Rattle.std.proofs.Common.{sym, ap, ◌∙◌, subst, arith, add-zero, mul-le-mul, le_of_suc-le-suc, div-lt_iff_lt-mul, pow_pos}
 use Rattle.std.specs.Float.{nan, inf, fin, binary64}
+use Rattle.std.specs.Int.{from_bool}
 use Rattle.std.specs.Float.Ieee.{up, down, size, nearest, round, odd, units, neg, low, is_nan, to_bits}
 use Rattle.std.specs.Float.Ieee.Fits.{down_pos, round_is}
 use Rattle.std.specs.Float.Ieee.Exact.{HasValue}
@@ -77,8 +78,7 @@ neg_bits (fin false m e) n h =
     above : (a b : ℕ) → 0 + a + b + 2 ^ 63 ≡ 2 ^ 63 + a + b
     above a b = omega arith
 
-pub signed_bits : (n s : ℕ) → n ≤ 2 ^ 53 → s < 2
-    → to_bits binary64 (round binary64 false n 1) + s * 2 ^ 63 ≡ to_bits binary64 (round binary64 (eqb s 1) n 1)
-signed_bits n zero h l = add-zero (to_bits binary64 (round binary64 false n 1))
-signed_bits n (suc zero) h l = neg_bits (round binary64 false n 1) n (round_whole binary64 false n h) ∙ ap (to_bits binary64) (neg_round n 1)
-signed_bits n (suc (suc s)) h l = absurd (omega arith)
+pub signed_bits : (n : ℕ) (g : Bool) → n ≤ 2 ^ 53
+    → to_bits binary64 (round binary64 false n 1) + from_bool g * 2 ^ 63 ≡ to_bits binary64 (round binary64 g n 1)
+signed_bits n false h = add-zero (to_bits binary64 (round binary64 false n 1))
+signed_bits n true h = neg_bits (round binary64 false n 1) n (round_whole binary64 false n h) ∙ ap (to_bits binary64) (neg_round n 1)

@@ -1,5 +1,5 @@
 // A float by the fields of its bit pattern.
-ghost use Rattle.std.specs.Prelude.{◌≡◌, ◌-◌, ◌^◌, ◌≤◌, ◌<◌, eqb};
+ghost use Rattle.std.specs.Prelude.{◌≡◌, ◌-◌, ◌^◌, ◌≤◌, ◌<◌};
 ghost use Rattle.std.specs.Float.Ieee as Ieee;
 ghost use Rattle.std.specs.Float.{binary64};
 ghost use Rattle.math_round.specs.Pattern.{field_of, parts_of, Measures};
@@ -15,10 +15,10 @@ const INFINITY: u64 = 0x7FF0000000000000;
 // from this field on a float is a whole number
 const WHOLE: u64 = 1075;
 
-// a sign, 1 for minus, and a magnitude: whole + rest / one
+// a sign, true for minus, and a magnitude: whole + rest / one
 #[derive(Clone, Copy)]
 pub(crate) struct Parts {
-    pub(crate) sign: u64,
+    pub(crate) sign: bool,
     pub(crate) whole: u64,
     pub(crate) rest: u64,
     pub(crate) one: u64,
@@ -58,7 +58,7 @@ fn split(bits: u64) -> Parts
     let p = places(field(bits));
     let one = 1 << p;
     Parts {
-        sign: bits / SIGN,
+        sign: SIGN <= bits,
         whole: digits >> p,
         rest: digits % one,
         one,
@@ -88,10 +88,10 @@ pub(crate) fn measured(x: f64) -> Magnitude
 
 // A whole number as a float, with a sign: also -0. The sign's bit is added, as a processor guesses wrong at every
 // second sign; and through an i64, which it converts in one step.
-pub(crate) fn signed_whole(n: u64, sign: u64) -> f64
-    requires { (n ≤ 2 ^ 53) × (sign < 2) }
-    ensures { result ≡ Ieee.round binary64 (eqb sign 1) n 1 }
+pub(crate) fn signed_whole(n: u64, minus: bool) -> f64
+    requires { n ≤ 2 ^ 53 }
+    ensures { result ≡ Ieee.round binary64 minus n 1 }
 {
     let size = (n as i64) as f64;
-    f64::from_bits(size.to_bits() + sign * SIGN)
+    f64::from_bits(size.to_bits() + u64::from(minus) * SIGN)
 }
