@@ -4,6 +4,7 @@ use data_centering::linear;
 use definitions::Centering;
 use std::io::{self, Read, Write};
 
+// No `From`: the trait and both types are of other crates.
 fn centering_of(letter: u8) -> Centering {
     match letter {
         b'A' => Centering::A,

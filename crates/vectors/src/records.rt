@@ -1,8 +1,9 @@
 // What records hold and lines show, for the program that runs vectors. Numbers are little-endian; past the end of the
 // input they are 0. Each word that is shown has a space in front.
 use crate::streams::Streams;
-use definitions::{Refusal, Text, Verdict};
+use definitions::{Refusal, Text};
 use job::operands::float_of;
+use lent::Zero;
 use std::io::{self, Read, Write};
 
 // ---- what a record holds
@@ -175,12 +176,22 @@ pub(crate) fn print_refused<R: Read, W: Write>(
     streams.show(usize::from(refusal))
 }
 
-pub(crate) fn print_verdict<R: Read, W: Write>(
+// Whether a call accepts: what it answers by value is shown behind this.
+pub(crate) fn print_verdict<T: Copy, R: Read, W: Write>(
     streams: &mut Streams<R, W>,
-    v: Verdict,
+    v: Result<T, Refusal>,
 ) -> io::Result<()> {
     match v {
-        Ok(()) => streams.print(" accepted"),
+        Ok(_) => streams.print(" accepted"),
         Err(refusal) => print_refused(streams, refusal),
     }
+}
+
+// What a call answers; zeros where it refuses, as lent cells are then, so that each line of a call has as many words.
+pub(crate) fn show_answer<T: Shown + Zero, R: Read, W: Write>(
+    streams: &mut Streams<R, W>,
+    answer: Result<T, Refusal>,
+) -> io::Result<()> {
+    print_verdict(streams, answer)?;
+    streams.show(answer.unwrap_or(T::ZERO))
 }

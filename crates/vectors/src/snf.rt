@@ -1,19 +1,13 @@
 // The diagonalisation: D, L and R; and its passes.
-use crate::records::{Shown, print_refused, print_verdict};
+use crate::records::{print_refused, show_answer};
 use crate::streams::Streams;
-use definitions::{Passes, Refusal, SnfMatrix, Stages, Verdict};
+use definitions::{Passes, Refusal, Stages};
 use math_snf::{passes, snf};
 use std::io::{self, Read, Write};
 
 pub(crate) fn run_snf<R: Read, W: Write>(streams: &mut Streams<R, W>) -> io::Result<()> {
-    let mut d = SnfMatrix::SEVEN;
-    let mut l = SnfMatrix::SEVEN;
-    let mut r = SnfMatrix::SEVEN;
-    let v = snf(streams.read()?, &mut d, &mut l, &mut r);
-    print_verdict(streams, v)?;
-    streams.show(d)?;
-    streams.show(l)?;
-    streams.show(r)
+    let answer = snf(streams.read()?).map(|s| [s.d, s.l, s.r]);
+    show_answer(streams, answer)
 }
 
 fn show_stages<R: Read, W: Write>(streams: &mut Streams<R, W>, s: Stages) -> io::Result<()> {
@@ -23,7 +17,7 @@ fn show_stages<R: Read, W: Write>(streams: &mut Streams<R, W>, s: Stages) -> io:
 pub(crate) fn run_passes<R: Read, W: Write>(streams: &mut Streams<R, W>) -> io::Result<()> {
     match passes(streams.read()?) {
         Passes::Counted(s) => {
-            print_verdict(streams, Ok(()))?;
+            streams.print(" accepted")?;
             show_stages(streams, s)
         }
         Passes::Left(s) => {

@@ -1,15 +1,12 @@
 // The calls of base/transformation.rs: the invariant factors and the points of C, and a rotation in another basis.
-use crate::records::{Shown, print_verdict};
+use crate::records::{print_verdict, show_answer};
 use crate::streams::Streams;
 use base_transformation::{invariant_factors, lattice_points, transform_rotation};
-use definitions::Integers;
 use std::io::{self, Read, Write};
 
 pub(crate) fn run_factors<R: Read, W: Write>(streams: &mut Streams<R, W>) -> io::Result<()> {
-    let mut out = [7i16; 3];
-    let v = invariant_factors(streams.read()?, &mut out);
-    print_verdict(streams, v)?;
-    streams.show(out)
+    let factors = invariant_factors(streams.read()?);
+    show_answer(streams, factors)
 }
 
 pub(crate) fn run_points<R: Read, W: Write>(streams: &mut Streams<R, W>) -> io::Result<()> {
@@ -23,8 +20,5 @@ pub(crate) fn run_points<R: Read, W: Write>(streams: &mut Streams<R, W>) -> io::
 pub(crate) fn run_rotation<R: Read, W: Write>(streams: &mut Streams<R, W>) -> io::Result<()> {
     let t = streams.read()?;
     let r = streams.read()?;
-    let mut out = Integers::SEVEN;
-    let v = transform_rotation(t, r, &mut out);
-    print_verdict(streams, v)?;
-    streams.show(out)
+    show_answer(streams, transform_rotation(t, r))
 }

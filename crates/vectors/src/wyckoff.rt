@@ -1,22 +1,17 @@
 // The calls of symmetrize/wyckoff.rs on one candidate: its space, and its match with a position.
-use crate::records::{Shown, print_refused, print_verdict};
+use crate::records::{print_refused, print_verdict};
 use crate::streams::Streams;
 use data_wyckoff::space::{Space, prepare};
-use definitions::{Cells, Fit, Position, Rotation, SnfMatrix};
+use definitions::{Cells, Fit, Position};
+use lent::Zero;
 use std::io::{self, Read, Write};
 use symmetrize_match::match_coordinates;
 
 pub(crate) fn run_prepare<R: Read, W: Write>(streams: &mut Streams<R, W>) -> io::Result<()> {
     let text = streams.read()?;
-    let mut space = Space {
-        matrix: Rotation::SEVEN,
-        shift: Cells::SEVEN,
-        d: SnfMatrix::SEVEN,
-        l: SnfMatrix::SEVEN,
-        r: SnfMatrix::SEVEN,
-    };
-    let v = prepare(&text, &mut space);
-    print_verdict(streams, v)?;
+    let prepared = prepare(&text);
+    print_verdict(streams, prepared)?;
+    let space = prepared.unwrap_or(Space::ZERO);
     streams.show(space.matrix)?;
     streams.show(space.shift)?;
     streams.show([space.d, space.l, space.r])
