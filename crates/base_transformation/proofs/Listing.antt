@@ -1,5 +1,5 @@
 -- What the lists of copies come to: the step, and the call that finds the points.
-use Rattle.std.proofs.Common.{◌≡◌, ℕ, ◌-◌, ◌<◌, Bool, true, false, cond, List, [], ◌∷◌, ◌++◌, map, length, take, replicate, ℤ, pos, sym, refl, ap, ◌∙◌, subst, take_at}
+use Rattle.std.proofs.Common.{◌≡◌, ℕ, ◌-◌, Bool, true, false, cond, List, [], ◌∷◌, ◌++◌, map, length, take, replicate, ℤ, pos, sym, refl, ap, ◌∙◌, subst, take_at}
 use mathlib.Core.List.{map-map, map-append}
 use lib.ListN.{length-map}
 use lib.Ieee.{Float}
@@ -10,17 +10,18 @@ use Rattle.definitions.specs.Limits.{copies, most_copies}
 use Rattle.definitions.specs.Lent.{position_from, cells_of, zero_cells, zero_point}
 use Rattle.definitions.specs.Matrix.{Matrix}
 use Rattle.definitions.specs.Real.{RealMatrix, inverse_of_c}
-use Rattle.definitions.specs.Refusal.{Condition, Checked, padded}
+use Rattle.definitions.specs.Refusal.{Condition, Checked, Returns, Outcome, accepted, refused, number, padded}
 use Rattle.definitions.specs.Cell.{listed_position, listed_positions, listed_points, site_mapping, listed_elements}
 use Rattle.definitions.specs.SiteCalls.{ListingCells, listing_rooms, HoldsListing, nothing_listed, listable, listing_at, listing_of}
 use Rattle.definitions.specs.SiteCalls.{CopiesListed, list_conditions, IsListing, ListPromise}
 use Rattle.laws.specs.Verdicts.{promise_accepted, promise_refused}
 use Rattle.math_matrix.specs.Laws.{Three}
-use Rattle.base_transformation.specs.Answers.{points_of, Ended, Ready}
+use Rattle.definitions.specs.Calls.{IsSnf}
+use Rattle.definitions.specs.Snf.{State, points}
+use Rattle.base_transformation.specs.Answers.{Ready}
 use Rattle.base_transformation_laws.proofs.Covered.{run-points-count}
 use Rattle.base_transformation.specs.Runs.{run_cells}
-use Rattle.base_transformation.specs.Copied.{list_facts}
-use Rattle.base_transformation.proofs.Points.{run-points}
+use Rattle.base_transformation.specs.Copied.{ListFacts, list_facts}
 use Rattle.base_transformation.proofs.Accepted.{ready_of}
 use Rattle.base_transformation.proofs.Listable.{can_list}
 
@@ -75,39 +76,52 @@ module _ (c : Matrix) (es : List ℤ) (ps : List (List Float)) (entry : ListingC
   abbrev conditions : List Condition
   conditions = list_conditions c es ps (listing_rooms entry)
 
-  module _ (accepted : Checked conditions (Ok tt)) (shape : Three c) where
-    regular : 0 < copies c
-    regular = (list_facts c es ps (listing_rooms entry) accepted).copied.0
+  abbrev pub Ended : Outcome State → Type 0
+  Ended = Returns conditions (IsSnf c)
 
-    module _ (d l : Matrix) (ended : Ended c d l) where
-      count : length (points_of d l) ≡ copies c
-      count = ap length (sym (run-points c d l ended)) ∙ run-points-count shape regular ended.1.0
+  module _ (shape : Three c) (s : State) (ended : Ended (accepted s)) where
+    checked : Checked conditions (Ok tt)
+    unfolding Returns Checked
+    checked = (ended.0, tt)
 
-      pub listed_ready : Ready d most_copies × (length (points_of d l) ≡ copies c)
-      listed_ready = let f = list_facts c es ps (listing_rooms entry) accepted in (ready_of c most_copies (f.copied.0, f.copied.1, f.copied.1) shape d l ended, count)
+    is_snf : IsSnf c s
+    unfolding Returns
+    is_snf = ended.1
 
-      -- the listing at the points is the run's
-      same : listing_at c es (map position_from ps) (points_of d l) ≡ listing_of es (map position_from ps) ended.1.0
-      same = λ k.
-          record {
-            positions = listed_positions c (map position_from ps) (sym (run-points c d l ended) k);
-            points = listed_points (length (map position_from ps)) (sym (run-points c d l ended) k);
-            mapping = site_mapping (length (map position_from ps)) (count k);
-            elements = listed_elements es (count k);
-          }
+    facts : ListFacts c es ps (listing_rooms entry)
+    facts = list_facts c es ps (listing_rooms entry) checked
 
-      can_be : listable (length ps) (length es) (length (points_of d l)) (listing_rooms entry) ≡ true
-      can_be =
-          let f = list_facts c es ps (listing_rooms entry) accepted in
-          subst (λ (m : ℕ). listable (length ps) (length es) m (listing_rooms entry) ≡ true) (sym count)
-          (can_list (length ps) (length es) (copies c) entry f.sites f.alike f.few f.room)
+    are_points : points s ≡ points is_snf.0.third
+    are_points = ap points (sym is_snf.1)
 
-      pub keep-accepted : (exit : ListingCells) → CopiesListed c (points_of d l) es ps entry exit → ListPromise c es ps entry exit (Ok tt)
-      keep-accepted exit h =
-          promise_accepted conditions (IsListing c es ps) (HoldsListing entry exit) (HoldsListing entry exit nothing_listed)
-          (listing_of es (map position_from ps) ended.1.0) accepted (ended.1.0, refl)
-          (subst (HoldsListing entry exit) same (subst (Left c (points_of d l) es ps entry exit) can_be h))
+    count : length (points s) ≡ copies c
+    count = ap length are_points ∙ run-points-count shape facts.copied.0 is_snf.0
 
-  pub keep_refused : (r : Refusal) (exit : ListingCells) → Checked conditions (Err r) → HoldsListing entry exit nothing_listed → ListPromise c es ps entry exit (Err r)
-  keep_refused r exit refused h =
-      promise_refused conditions (IsListing c es ps) (HoldsListing entry exit) (HoldsListing entry exit nothing_listed) r refused h
+    pub listed_ready : Ready s.d most_copies × (length (points s) ≡ copies c)
+    listed_ready = (ready_of c most_copies (facts.copied.0, facts.copied.1, facts.copied.1) shape s is_snf, count)
+
+    -- the listing at the points is the run's
+    same : listing_at c es (map position_from ps) (points s) ≡ listing_of es (map position_from ps) is_snf.0
+    same = λ k.
+        record {
+          positions = listed_positions c (map position_from ps) (are_points k);
+          points = listed_points (length (map position_from ps)) (are_points k);
+          mapping = site_mapping (length (map position_from ps)) (count k);
+          elements = listed_elements es (count k);
+        }
+
+    can_be : listable (length ps) (length es) (length (points s)) (listing_rooms entry) ≡ true
+    can_be =
+        subst (λ (m : ℕ). listable (length ps) (length es) m (listing_rooms entry) ≡ true) (sym count)
+        (can_list (length ps) (length es) (copies c) entry facts.sites facts.alike facts.few facts.room)
+
+    pub keep-accepted : (exit : ListingCells) → CopiesListed c (points s) es ps entry exit → ListPromise c es ps entry exit (Ok tt)
+    keep-accepted exit h =
+        promise_accepted conditions (IsListing c es ps) (HoldsListing entry exit) (HoldsListing entry exit nothing_listed)
+        (listing_of es (map position_from ps) is_snf.0) checked (is_snf.0, refl)
+        (subst (HoldsListing entry exit) same (subst (Left c (points s) es ps entry exit) can_be h))
+
+  pub keep_refused : (r : Refusal) (exit : ListingCells) → Ended (refused (number r)) → HoldsListing entry exit nothing_listed → ListPromise c es ps entry exit (Err r)
+  unfolding Returns Checked
+  keep_refused r exit e h =
+      promise_refused conditions (IsListing c es ps) (HoldsListing entry exit) (HoldsListing entry exit nothing_listed) r e h

@@ -1,5 +1,5 @@
 -- Which point stands at the place k, that the digits of k can be computed, and what the list is in the end.
-use Rattle.std.proofs.Common.{◌≡◌, ℕ, zero, suc, ◌*◌, ◌/◌, ◌%◌, ◌<◌, ◌≤◌, List, [], ◌∷◌, ◌++◌, map, length, get_or, drop, ℤ, pos, nat_abs, sym, refl, ap, ◌∙◌, arith}
+use Rattle.std.proofs.Common.{◌≡◌, ℕ, zero, suc, ◌*◌, ◌/◌, ◌%◌, ◌<◌, ◌≤◌, List, [], ◌∷◌, ◌++◌, map, length, get_or, drop, ℤ, pos, nat_abs, sym, ap, ◌∙◌, arith}
 use lib.ListN.{length-map}
 use Rattle.std.specs.Prelude.{Ok}
 use Rattle.definitions.specs.Refusal.{padded}
@@ -8,8 +8,8 @@ use Rattle.definitions.specs.Snf.{State, box, points}
 use Rattle.laws.specs.Lists.{map_at}
 use Rattle.base_transformation_laws.specs.Box.{length-box, box_at, positive}
 use Rattle.definitions.specs.Lent.{zero_point}
-use Rattle.definitions.specs.Calls.{PointsLent}
-use Rattle.base_transformation.specs.Answers.{points_of, Ended, Ready}
+use Rattle.definitions.specs.Calls.{IsSnf, PointsLent}
+use Rattle.base_transformation.specs.Answers.{Ready}
 use Rattle.laws.specs.Filling.{cut, padded_by}
 
 module _ (m : Matrix) (a b c : ℕ) where
@@ -37,25 +37,16 @@ factors a b c k h =
       omega (arith, less_by a (b * c) (positive b c a k w)),
     )
 
--- R plays no part in the points
-points_of_lem : (t : State) → points t ≡ points_of t.d t.l
-unfolding points
-points_of_lem t = refl
+pub points-lent : (c : Matrix) (s : State) (entry exit : List (List ℤ)) → IsSnf c s → exit ≡ padded zero_point (points s) (length entry) → PointsLent c entry exit (Ok tt)
+points-lent c s entry exit e f =
+    (e.0, f ∙ ap (λ (t : State). padded zero_point (points t) (length entry)) (sym e.1))
 
--- the points of a run are those of its D and L
-pub run-points : (c d l : Matrix) (e : Ended c d l) → points e.1.0.third ≡ points_of d l
-run-points c d l e = ap points e.1.1 ∙ points_of_lem (record { d = d; l = l; r = e.0 })
-
-pub points-lent : (c d l : Matrix) (entry exit : List (List ℤ)) → Ended c d l → exit ≡ padded zero_point (points_of d l) (length entry) → PointsLent c entry exit (Ok tt)
-points-lent c d l entry exit e f =
-    (e.1.0, f ∙ ap (λ (ps : List (List ℤ)). padded zero_point ps (length entry)) (sym (run-points c d l e)))
-
-module _ (d l : Matrix) (a b c : ℕ) (x : a ≡ nat_abs (at d 0 0)) (y : b ≡ nat_abs (at d 1 1)) (z : c ≡ nat_abs (at d 2 2)) (entry : List (List ℤ)) (ready : Ready d (length entry)) where
+module _ (s : State) (a b c : ℕ) (x : a ≡ nat_abs (at s.d 0 0)) (y : b ≡ nat_abs (at s.d 1 1)) (z : c ≡ nat_abs (at s.d 2 2)) (entry : List (List ℤ)) (ready : Ready s.d (length entry)) where
   pub listed_facts : (0 < a * b * c) × (a * b * c ≤ 64) × (a * b * c ≤ length entry)
   listed_facts = rw (x, y, z) (ready.some, ready.few, ready.fits)
 
-  pub listed : (m : Matrix) (n : ℕ) (mid exit : List (List ℤ)) → m ≡ inverse l → n ≡ a * b * c
-      → mid ≡ map (apply m) (box a b c) ++ drop (a * b * c) entry → exit ≡ cut zero_point n mid → exit ≡ padded zero_point (points_of d l) (length entry)
+  pub listed : (m : Matrix) (n : ℕ) (mid exit : List (List ℤ)) → m ≡ inverse s.l → n ≡ a * b * c
+      → mid ≡ map (apply m) (box a b c) ++ drop (a * b * c) entry → exit ≡ cut zero_point n mid → exit ≡ padded zero_point (points s) (length entry)
   unfolding points
   listed m n mid exit g e p q =
       padded_by zero_point (map (apply m) (box a b c)) entry exit mid (a * b * c) (box-points m a b c) listed_facts.2 p (q ∙ ap (λ (k : ℕ). cut zero_point k mid) e)

@@ -1,25 +1,29 @@
 // The copies of primitive sites in the conventional cell (the listing of moyo's `Transformation::transform_cell`), run
 // by run: the run of a primitive site has its copy at each point.
 ghost use Rattle.std.specs.Prelude.{◌≡◌, ◌+◌, ◌*◌, ◌<◌, ◌≤◌, ◌||◌, List, [], length, pos, slice_index_or};
-ghost use Rattle.definitions.specs.Lists.{any, each};
+ghost use Rattle.definitions.specs.Lists.{each};
 ghost use Rattle.definitions.specs.Limits as Limits;
-ghost use Rattle.definitions.specs.Limits.{most_sites, most_copies, too_many_sites, shorter_than};
+ghost use Rattle.definitions.specs.Limits.{most_sites, most_copies, too_many_sites};
 ghost use Rattle.definitions.specs.Lent.{position_from, zero_cells, zero_point, unlike};
-ghost use Rattle.definitions.specs.Refusal.{padded};
+ghost use Rattle.definitions.specs.Refusal.{Returns, outcome, padded};
+ghost use Rattle.definitions.specs.Calls.{IsSnf};
+ghost use Rattle.definitions.specs.Snf.{points};
 ghost use Rattle.definitions.specs.Cell.{point_of, listed_points, site_mapping, listed_elements};
 ghost use Rattle.definitions.specs.SiteCalls.{HoldsListing, nothing_listed, listable, listing_rooms, CopiesListed};
 ghost use Rattle.definitions.specs.SiteCalls.{list_conditions, ListPromise};
-ghost use Rattle.base_transformation.specs.Answers.{points_of, EndedOr, Ready};
+ghost use Rattle.math_snf.specs.Step.{state_of};
+ghost use Rattle.base_transformation.specs.Answers.{Ready};
 ghost use Rattle.base_transformation.specs.Runs.{copy_cells, run_cells, held, SameRooms, SameLists};
 ghost use Rattle.base_transformation.specs.Runs.{Makes, MakesRun, CanMake};
 
-use crate::{Ends, diagonalise, list_points};
+use crate::{diagonalise, list_points};
 use checks::{all_cells_within, copies, in_range};
 use definitions::limits::{MOST_COPIES, MOST_LISTED, MOST_SITES};
 use definitions::{Basis, Cells, Linear, Point, Position, Refusal, Verdict};
-use lent::{Zero, clear};
+use lent::{Zero, clear, lacks_room};
 use math_real::position;
 use math_real::whole::inverse_of_c;
+use math_snf::SmithForm;
 use std::num::nearest_i64_to_f64;
 
 // How many entries each of the four lists has room for: positions, points, mapping, elements.
@@ -132,17 +136,10 @@ fn bad_counts(n: usize, elements: usize) -> bool
     MOST_SITES < n || elements != n
 }
 
-// a list that is shorter than the answer
-fn short(answer: usize, rooms: Rooms) -> bool
-    ensures { result ≡ any (shorter_than answer) rooms }
-{
-    rooms.iter().any(|room| *room < answer)
-}
-
 fn can_list(n: usize, elements: usize, m: usize, rooms: Rooms) -> bool
     ensures { result ≡ listable n elements m rooms }
 {
-    !bad_counts(n, elements) && m <= MOST_COPIES && !short(n * m, rooms)
+    !bad_counts(n, elements) && m <= MOST_COPIES && !lacks_room(n * m, rooms)
 }
 
 // ---- the four lists
@@ -215,8 +212,8 @@ fn diagonalise_for(
     elements: &[i32],
     positions: &[Cells],
     rooms: Rooms,
-) -> Result<Ends, Refusal>
-    ensures { EndedOr (list_conditions c elements.now positions.now rooms) c result }
+) -> Result<SmithForm, Refusal>
+    ensures { Returns (list_conditions c elements.now positions.now rooms) (IsSnf c) (outcome state_of result) }
 {
     if bad_counts(positions.len(), elements.len()) {
         return Err(Refusal::Counts);
@@ -227,27 +224,27 @@ fn diagonalise_for(
     if !all_cells_within(positions) {
         return Err(Refusal::FloatRange);
     }
-    let ends = diagonalise(c)?;
+    let s = diagonalise(c)?;
     let listed = positions.len() * copies(c);
     if MOST_LISTED < listed {
         return Err(Refusal::ListedSites);
     }
-    if short(listed, rooms) {
+    if lacks_room(listed, rooms) {
         return Err(Refusal::Buffer);
     }
-    Ok(ends)
+    Ok(s)
 }
 
-// the copies at the points of D and L
-fn list_all(c: Linear, ends: Ends, elements: &[i32], positions: &[Cells], listing: &mut Listing)
-    requires { (Ready ends.d most_copies) × (length (points_of ends.d ends.l) ≡ Limits.copies c) }
-    ensures listed { CopiesListed c (points_of ends.d ends.l) elements.now positions.now
+// the copies at the points of the diagonalisation
+fn list_all(c: Linear, s: SmithForm, elements: &[i32], positions: &[Cells], listing: &mut Listing)
+    requires { (Ready s.d most_copies) × (length (points (state_of s)) ≡ Limits.copies c) }
+    ensures listed { CopiesListed c (points (state_of s)) elements.now positions.now
         (held listing.old) (held listing.new) }
     ensures rooms { SameRooms (held listing.old) (held listing.new) }
     ensures same_lists { SameLists listing.old listing.new }
 {
     let mut points = [Point::ZERO; MOST_COPIES];
-    list_points(ends, &mut points);
+    list_points(s, &mut points);
     let m = copies(c);
     list_copies(c, &points[..m], elements, positions, listing);
 }
@@ -264,8 +261,8 @@ pub fn list_sites(
     ensures same_lists { SameLists listing.old listing.new }
 {
     match diagonalise_for(c, elements, positions, listing.rooms()) {
-        Ok(ends) => {
-            list_all(c, ends, elements, positions, listing);
+        Ok(s) => {
+            list_all(c, s, elements, positions, listing);
             Ok(())
         }
         Err(refusal) => {

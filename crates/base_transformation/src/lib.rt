@@ -6,33 +6,27 @@ pub mod cell;
 
 ghost use Rattle.std.specs.Prelude.{◌≡◌, ◌*◌, ◌/◌, ◌%◌, ◌<◌, ◌≤◌, true, [], ◌∷◌, ◌++◌, map, length, drop, pos};
 ghost use Rattle.definitions.specs.Matrix.{apply as apply_of};
-ghost use Rattle.definitions.specs.Refusal.{Checked, padded};
-ghost use Rattle.definitions.specs.Calls.{transform_conditions, points_conditions};
-ghost use Rattle.definitions.specs.Calls.{RotationPromise, PointsPromise, FactorsPromise};
+ghost use Rattle.definitions.specs.Refusal.{Returns, outcome, padded};
+ghost use Rattle.definitions.specs.Calls.{points_conditions};
+ghost use Rattle.definitions.specs.Calls.{RotationPromise, PointsPromise, FactorsPromise, IsSnf};
 ghost use Rattle.definitions.specs.Lent.{zero_point};
-ghost use Rattle.definitions.specs.Snf.{box, diagonal as diagonal_of};
+ghost use Rattle.definitions.specs.Snf.{box, points, diagonal as diagonal_of};
 ghost use Rattle.definitions.specs.Limits.{in_range};
-ghost use Rattle.base_transformation.specs.Answers.{points_of};
-ghost use Rattle.base_transformation.specs.Answers.{Diagonalised, EndedOr, Ready};
+ghost use Rattle.math_snf.specs.Step.{state_of};
+ghost use Rattle.base_transformation.specs.Answers.{Diagonalised, Ready};
 
 use checks::{copies, good_copies, in_range, unimodular};
 use definitions::limits::MOST_COPIES;
 use definitions::{Cofactors, Integers, Linear, Point, Refusal, Rotation, SnfMatrix, Verdict};
-use lent::{Zero, clear};
+use lent::clear;
 use math_matrix::{apply, inverse, transform};
-use math_snf::snf;
-
-// D and L of a diagonalisation, which the points are made of: R plays no part in them.
-#[derive(Clone, Copy)]
-pub(crate) struct Ends {
-    pub(crate) d: SnfMatrix,
-    pub(crate) l: SnfMatrix,
-}
+use math_snf::{SmithForm, snf};
 
 // ---- a rotation in another basis
 
-fn rotation_verdict(t: Linear, r: Rotation) -> Verdict
-    ensures { Checked (transform_conditions t r) result }
+// T⁻¹RT
+pub fn transform_rotation(t: Linear, r: Rotation) -> Result<Integers, Refusal>
+    ensures { RotationPromise t r result }
 {
     if !in_range(t) {
         return Err(Refusal::MatrixEntry);
@@ -43,23 +37,7 @@ fn rotation_verdict(t: Linear, r: Rotation) -> Verdict
     if !unimodular(t) {
         return Err(Refusal::Determinant);
     }
-    Ok(())
-}
-
-// T⁻¹RT
-pub fn transform_rotation(t: Linear, r: Rotation, out: &mut Integers) -> Verdict
-    ensures { RotationPromise t r out.new result }
-{
-    match rotation_verdict(t, r) {
-        Ok(()) => {
-            *out = transform(t, r);
-            Ok(())
-        }
-        Err(refusal) => {
-            *out = Integers::ZERO;
-            Err(refusal)
-        }
-    }
+    Ok(transform(t, r))
 }
 
 // ---- points
@@ -86,47 +64,43 @@ fn put_points(m: Cofactors, a: usize, b: usize, c: usize, out: &mut [Point]) -> 
     n
 }
 
-// the points and zero behind them
-pub(crate) fn list_points(ends: Ends, out: &mut [Point])
-    requires { Ready ends.d (length out.old) }
-    ensures { out.new ≡ padded zero_point (points_of ends.d ends.l) (length out.old) }
+// the points, of D and L, and zero behind them
+pub(crate) fn list_points(s: SmithForm, out: &mut [Point])
+    requires { Ready s.d (length out.old) }
+    ensures { out.new ≡ padded zero_point (points (state_of s)) (length out.old) }
 {
-    let m = inverse(ends.l);
-    let a = usize::from(ends.d[0][0].unsigned_abs());
-    let b = usize::from(ends.d[1][1].unsigned_abs());
-    let c = usize::from(ends.d[2][2].unsigned_abs());
+    let m = inverse(s.l);
+    let a = usize::from(s.d[0][0].unsigned_abs());
+    let b = usize::from(s.d[1][1].unsigned_abs());
+    let c = usize::from(s.d[2][2].unsigned_abs());
     let n = put_points(m, a, b, c, out);
     clear(out, n);
 }
 
 // ---- the conditions of the points
 
-// D and L, where there are from 1 to 64 copies and the diagonalisation keeps within its range
-pub(crate) fn diagonalise(c: Linear) -> Result<Ends, Refusal>
+// the diagonalisation, where there are from 1 to 64 copies and it keeps within its range
+pub(crate) fn diagonalise(c: Linear) -> Result<SmithForm, Refusal>
     requires { in_range c ≡ true }
     ensures { Diagonalised c result }
 {
     if !good_copies(c) {
         return Err(Refusal::Determinant);
     }
-    let mut d = SnfMatrix::ZERO;
-    let mut l = SnfMatrix::ZERO;
-    let mut r = SnfMatrix::ZERO;
-    snf(c, &mut d, &mut l, &mut r)?;
-    Ok(Ends { d, l })
+    snf(c)
 }
 
-fn diagonalise_for(c: Linear, room: usize) -> Result<Ends, Refusal>
-    ensures { EndedOr (points_conditions c room) c result }
+fn diagonalise_for(c: Linear, room: usize) -> Result<SmithForm, Refusal>
+    ensures { Returns (points_conditions c room) (IsSnf c) (outcome state_of result) }
 {
     if !in_range(c) {
         return Err(Refusal::MatrixEntry);
     }
-    let ends = diagonalise(c)?;
+    let s = diagonalise(c)?;
     if room < copies(c) {
         return Err(Refusal::Buffer);
     }
-    Ok(ends)
+    Ok(s)
 }
 
 // L⁻¹f for each f below the diagonal of D, last fastest
@@ -134,8 +108,8 @@ pub fn lattice_points(c: Linear, out: &mut [Point]) -> Verdict
     ensures { PointsPromise c out.old out.new result }
 {
     match diagonalise_for(c, out.len()) {
-        Ok(ends) => {
-            list_points(ends, out);
+        Ok(s) => {
+            list_points(s, out);
             Ok(())
         }
         Err(refusal) => {
@@ -154,17 +128,9 @@ fn diagonal(d: SnfMatrix) -> [i16; 3]
 }
 
 // The diagonal of D, of C. There is room for any number of copies, so that 10 does not apply.
-pub fn invariant_factors(c: Linear, out: &mut [i16; 3]) -> Verdict
-    ensures { FactorsPromise c out.new result }
+pub fn invariant_factors(c: Linear) -> Result<[i16; 3], Refusal>
+    ensures { FactorsPromise c result }
 {
-    match diagonalise_for(c, MOST_COPIES) {
-        Ok(ends) => {
-            *out = diagonal(ends.d);
-            Ok(())
-        }
-        Err(refusal) => {
-            *out = [0, 0, 0];
-            Err(refusal)
-        }
-    }
+    let s = diagonalise_for(c, MOST_COPIES)?;
+    Ok(diagonal(s.d))
 }

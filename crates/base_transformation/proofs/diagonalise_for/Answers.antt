@@ -4,11 +4,11 @@ use Rattle.std.specs.Prelude.{Err, Ok}
 use Rattle.definitions.specs.declared.Refusal.{Refusal}
 use Rattle.definitions.specs.declared.Refusal.TheVariants.{MatrixEntry, Determinant, Diagonalisation, Buffer}
 use Rattle.definitions.specs.Limits.{in_range}
-use Rattle.definitions.specs.Refusal.{Checked}
-use Rattle.definitions.specs.Calls.{points_conditions}
-use Rattle.laws.specs.Verdicts.{holds, fails, untested, is_true, is_false, verdict_of, checked}
-use Rattle.base_transformation.specs.Answers.{Diagonalised, EndedOr}
-use Rattle.base_transformation.proofs.Accepted.{err_case}
+use Rattle.definitions.specs.Refusal.{Returns, Checked, outcome}
+use Rattle.definitions.specs.Calls.{IsSnf, points_conditions}
+use Rattle.laws.specs.Verdicts.{holds, fails, untested, is_true, is_false, verdict_of, checked, accepted_with, refused_with_lem, passed_on}
+use Rattle.math_snf.specs.Step.{state_of}
+use Rattle.base_transformation.specs.Answers.{Diagonalised}
 use Rattle.base_transformation.proofs.diagonalise_for.Goals as goal
 use Rattle.base_transformation.proofs.diagonalise_for.Goals.{Else-not-in_range}
 
@@ -28,21 +28,28 @@ refused c r =
 pub returns-then-not-in_range : goal.returns-then-not-in_range
 unfolding verdict_of
 returns-then-not-in_range c =
-    checked _ (is_true (ap not (sym c.in_range.ensures ∙ c.if-not-in_range.true)), (untested, (untested, (untested, tt)))) (Err MatrixEntry) refl
+    refused_with_lem _ _ MatrixEntry
+    (checked _ (is_true (ap not (sym c.in_range.ensures ∙ c.if-not-in_range.true)), (untested, (untested, (untested, tt)))) (Err MatrixEntry) refl)
 
-pub returns-in_err-ends : goal.returns-in_err-ends
-returns-in_err-ends c = err_case (EndedOr (points_conditions c.args.c c.args.room) c.args.c) c.from_residual.result _ (refused (goal.at.returns-in_err-ends c).Else-not-in_range c.in_err-ends.field-0.0 c.in_err-ends.ensures) c.from_residual.ensures.1
+pub returns-in_err-s : goal.returns-in_err-s
+returns-in_err-s c =
+    let a = c.args in
+    let k = c.in_err-s.field-0.0 in
+    let cs = points_conditions a.c a.room in
+    passed_on (λ r. Returns cs (IsSnf a.c) (outcome state_of r)) k c.from_residual.result c.from_residual.ensures.1
+    (refused_with_lem cs (IsSnf a.c) k (refused (goal.at.returns-in_err-s c).Else-not-in_range k c.in_err-s.ensures))
 
 pub returns-then-room-copies : goal.returns-then-room-copies
 unfolding verdict_of
 returns-then-room-copies c =
     let short = ap (ltb c.args.room) (sym c.copies.ensures) ∙ lt-ltb _ _ c.if-room-copies.true in
-    let e = c.in_ok-ends.ensures in
-    checked _ (is_false (entries (goal.at.returns-then-room-copies c).Else-not-in_range), (is_false e.0, (fails e.1, (is_true short, tt)))) (Err Buffer) refl
+    let e = c.in_ok-s.ensures in
+    refused_with_lem _ _ Buffer
+    (checked _ (is_false (entries (goal.at.returns-then-room-copies c).Else-not-in_range), (is_false e.0, (fails e.1, (is_true short, tt)))) (Err Buffer) refl)
 
 pub returns : goal.returns
 unfolding verdict_of
 returns c =
     let room = ap (ltb c.args.room) (sym c.copies.ensures) ∙ le-ltb _ _ c.if-room-copies.false in
-    let e = c.in_ok-ends.ensures in
-    (checked _ (is_false (entries (goal.at.returns c).Else-not-in_range), (is_false e.0, (fails e.1, (is_false room, tt)))) (Ok tt) refl, e.2)
+    let e = c.in_ok-s.ensures in
+    accepted_with _ _ _ (checked _ (is_false (entries (goal.at.returns c).Else-not-in_range), (is_false e.0, (fails e.1, (is_false room, tt)))) (Ok tt) refl) e.2

@@ -3,15 +3,16 @@ use Rattle.std.proofs.Common.{◌≡◌, ℕ, ◌*◌, false, not, List, length,
 use Rattle.std.specs.Prelude.{Err}
 use Rattle.definitions.specs.declared.Refusal.{Refusal}
 use Rattle.definitions.specs.declared.Refusal.TheVariants.{Counts, MatrixEntry, FloatRange, Determinant, Diagonalisation, ListedSites, Buffer}
-use Rattle.definitions.specs.Refusal.{Condition, Checked}
+use Rattle.definitions.specs.Refusal.{Condition, Returns, Checked, outcome}
+use Rattle.definitions.specs.Calls.{IsSnf}
 use Rattle.definitions.specs.Limits.{in_range, bad_copies, copies, too_many_listed, shorter_than}
 use Rattle.definitions.specs.Lists.{any}
 use Rattle.definitions.specs.Snf.{Leaves}
 use Rattle.definitions.specs.SiteCalls.{list_conditions}
 use Rattle.laws.specs.Tests.{so, not_so}
-use Rattle.laws.specs.Verdicts.{HoldsAt, Passed, pass, found_at_lem, found_none, refuse, accept, verdict_of}
-use Rattle.base_transformation.specs.Answers.{Diagonalised, EndedOr}
-use Rattle.base_transformation.proofs.Accepted.{err_case}
+use Rattle.laws.specs.Verdicts.{HoldsAt, Passed, pass, found_at_lem, found_none, refuse, accept, verdict_of, accepted_with, refused_with_lem, passed_on}
+use Rattle.math_snf.specs.Step.{state_of}
+use Rattle.base_transformation.specs.Answers.{Diagonalised}
 use Rattle.base_transformation.proofs.cell.diagonalise_for.Goals as goal
 use Rattle.base_transformation.proofs.cell.diagonalise_for.Goals.{Else-bad_counts, Else-not-all_cells_within, Else-not-in_range, Start}
 
@@ -80,37 +81,52 @@ module _ (c : Else-not-all_cells_within) where
 
 pub returns-then-bad_counts : goal.returns-then-bad_counts
 unfolding verdict_of found_at_lem Passed HoldsAt
-returns-then-bad_counts c = refuse _ 0 tt (so (sym c.bad_counts.ensures ∙ c.if-bad_counts.true)) (Err Counts) refl
+returns-then-bad_counts c =
+    refused_with_lem _ _ Counts (refuse _ 0 tt (so (sym c.bad_counts.ensures ∙ c.if-bad_counts.true)) (Err Counts) refl)
 
 pub returns-then-not-in_range : goal.returns-then-not-in_range
 unfolding verdict_of found_at_lem HoldsAt
-returns-then-not-in_range c = refuse _ 1 (past₁ (goal.at.returns-then-not-in_range c).Else-bad_counts) (so (ap not (sym c.in_range.ensures) ∙ (ap not c.if-not-in_range.true))) (Err MatrixEntry) refl
+returns-then-not-in_range c =
+    let p = past₁ (goal.at.returns-then-not-in_range c).Else-bad_counts in
+    refused_with_lem _ _ MatrixEntry
+    (refuse _ 1 p (so (ap not (sym c.in_range.ensures) ∙ (ap not c.if-not-in_range.true))) (Err MatrixEntry) refl)
 
 pub returns-then-not-all_cells_within : goal.returns-then-not-all_cells_within
 unfolding verdict_of found_at_lem HoldsAt
-returns-then-not-all_cells_within c = refuse _ 2 (past₂ (goal.at.returns-then-not-all_cells_within c).Else-not-in_range) (so (ap not (sym c.all_cells_within.ensures) ∙ (ap not c.if-not-all_cells_within.true))) (Err FloatRange) refl
+returns-then-not-all_cells_within c =
+    let p = past₂ (goal.at.returns-then-not-all_cells_within c).Else-not-in_range in
+    refused_with_lem _ _ FloatRange
+    (refuse _ 2 p (so (ap not (sym c.all_cells_within.ensures) ∙ (ap not c.if-not-all_cells_within.true))) (Err FloatRange) refl)
 
-pub returns-in_err-ends : goal.returns-in_err-ends
-returns-in_err-ends c =
-    err_case (EndedOr (conditions (goal.at.returns-in_err-ends c).Start) c.args.c) c.from_residual.result _ (refused (goal.at.returns-in_err-ends c).Else-not-all_cells_within c.in_err-ends.field-0.0 c.in_err-ends.ensures) c.from_residual.ensures.1
+pub returns-in_err-s : goal.returns-in_err-s
+returns-in_err-s c =
+    let at = goal.at.returns-in_err-s c in
+    let k = c.in_err-s.field-0.0 in
+    let cs = conditions at.Start in
+    passed_on (λ r. Returns cs (IsSnf c.args.c) (outcome state_of r)) k c.from_residual.result c.from_residual.ensures.1
+    (refused_with_lem cs (IsSnf c.args.c) k (refused at.Else-not-all_cells_within k c.in_err-s.ensures))
 
 pub returns-then-listed-gt-MOST_LISTED : goal.returns-then-listed-gt-MOST_LISTED
 unfolding verdict_of found_at_lem HoldsAt
 returns-then-listed-gt-MOST_LISTED c =
     let p = (goal.at.returns-then-listed-gt-MOST_LISTED c).Else-not-all_cells_within in
-    let e = c.in_ok-ends.ensures in
-    refuse _ 5 (past₅ p e.0 e.1 c.copies.ensures) (so (sym (many p e.0 e.1 c.copies.ensures) ∙ lt-ltb _ _ c.if-listed-gt-MOST_LISTED.true)) (Err ListedSites) refl
+    let e = c.in_ok-s.ensures in
+    refused_with_lem _ _ ListedSites
+    (refuse _ 5 (past₅ p e.0 e.1 c.copies.ensures) (so (sym (many p e.0 e.1 c.copies.ensures) ∙ lt-ltb _ _ c.if-listed-gt-MOST_LISTED.true)) (Err ListedSites) refl)
 
-pub returns-then-short : goal.returns-then-short
+pub returns-then-lacks_room : goal.returns-then-lacks_room
 unfolding verdict_of found_at_lem HoldsAt
-returns-then-short c =
-    let p = (goal.at.returns-then-short c).Else-not-all_cells_within in
-    let e = c.in_ok-ends.ensures in
-    refuse _ 6 (past₆ p e.0 e.1 c.copies.ensures (le-ltb _ _ c.if-listed-gt-MOST_LISTED.false)) (so (sym (tight p e.0 e.1 c.copies.ensures) ∙ sym c.short.ensures ∙ c.if-short.true)) (Err Buffer) refl
+returns-then-lacks_room c =
+    let p = (goal.at.returns-then-lacks_room c).Else-not-all_cells_within in
+    let e = c.in_ok-s.ensures in
+    refused_with_lem _ _ Buffer
+    (refuse _ 6 (past₆ p e.0 e.1 c.copies.ensures (le-ltb _ _ c.if-listed-gt-MOST_LISTED.false)) (so (sym (tight p e.0 e.1 c.copies.ensures) ∙ sym c.lacks_room.ensures ∙ c.if-lacks_room.true)) (Err Buffer) refl)
 
 pub returns : goal.returns
 unfolding verdict_of found_none HoldsAt
 returns c =
     let p = (goal.at.returns c).Else-not-all_cells_within in
-    let e = c.in_ok-ends.ensures in
-    (accept _ (pass (conditions (start₃ p)) 6 (past₆ p e.0 e.1 c.copies.ensures (le-ltb _ _ c.if-listed-gt-MOST_LISTED.false)) (not_so (sym (tight p e.0 e.1 c.copies.ensures) ∙ sym c.short.ensures ∙ c.if-short.false))) refl, e.2)
+    let e = c.in_ok-s.ensures in
+    accepted_with _ _ _
+    (accept _ (pass (conditions (start₃ p)) 6 (past₆ p e.0 e.1 c.copies.ensures (le-ltb _ _ c.if-listed-gt-MOST_LISTED.false)) (not_so (sym (tight p e.0 e.1 c.copies.ensures) ∙ sym c.lacks_room.ensures ∙ c.if-lacks_room.false))) refl)
+    e.2

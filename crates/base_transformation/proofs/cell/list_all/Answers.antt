@@ -1,7 +1,8 @@
 -- The points are the front of the list that is held.
 use Rattle.std.proofs.Common.{List, ℤ, sym, ◌∙◌, subst}
 use Rattle.definitions.specs.SiteCalls.{CopiesListed}
-use Rattle.base_transformation.specs.Answers.{points_of}
+use Rattle.definitions.specs.Snf.{points}
+use Rattle.math_snf.specs.Step.{state_of}
 use Rattle.base_transformation.specs.Runs.{held}
 use Rattle.base_transformation.proofs.Listing.{front_is}
 use Rattle.base_transformation.proofs.cell.list_all.Goals as goal
@@ -11,5 +12,5 @@ returns-clause-listed c =
     let a = c.args in
     subst
     (λ (fs : List (List ℤ)). CopiesListed a.c fs a.elements.now a.positions.now (held a.listing.now) (held c.list_copies.new.listing))
-    (front_is (points_of a.ends.d a.ends.l) c.list_points.new.out 64 c.copies-m.result c.list_points.ensures (c.requires.1 ∙ sym c.copies-m.ensures))
+    (front_is (points (state_of a.s)) c.list_points.new.out 64 c.copies-m.result c.list_points.ensures (c.requires.1 ∙ sym c.copies-m.ensures))
     c.list_copies.ensures.listed
