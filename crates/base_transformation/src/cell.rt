@@ -224,7 +224,7 @@ fn diagonalise_for(
     if !all_cells_within(positions) {
         return Err(Refusal::FloatRange);
     }
-    let s = diagonalise(c)?;
+    let form = diagonalise(c)?;
     let listed = positions.len() * copies(c);
     if MOST_LISTED < listed {
         return Err(Refusal::ListedSites);
@@ -232,19 +232,25 @@ fn diagonalise_for(
     if lacks_room(listed, rooms) {
         return Err(Refusal::Buffer);
     }
-    Ok(s)
+    Ok(form)
 }
 
 // the copies at the points of the diagonalisation
-fn list_all(c: Linear, s: SmithForm, elements: &[i32], positions: &[Cells], listing: &mut Listing)
-    requires { (Ready s.d most_copies) × (length (points (state_of s)) ≡ Limits.copies c) }
-    ensures listed { CopiesListed c (points (state_of s)) elements.now positions.now
+fn list_all(
+    c: Linear,
+    form: SmithForm,
+    elements: &[i32],
+    positions: &[Cells],
+    listing: &mut Listing,
+)
+    requires { (Ready form.d most_copies) × (length (points (state_of form)) ≡ Limits.copies c) }
+    ensures listed { CopiesListed c (points (state_of form)) elements.now positions.now
         (held listing.old) (held listing.new) }
     ensures rooms { SameRooms (held listing.old) (held listing.new) }
     ensures same_lists { SameLists listing.old listing.new }
 {
     let mut points = [Point::ZERO; MOST_COPIES];
-    list_points(s, &mut points);
+    list_points(form, &mut points);
     let m = copies(c);
     list_copies(c, &points[..m], elements, positions, listing);
 }
@@ -261,8 +267,8 @@ pub fn list_sites(
     ensures same_lists { SameLists listing.old listing.new }
 {
     match diagonalise_for(c, elements, positions, listing.rooms()) {
-        Ok(s) => {
-            list_all(c, s, elements, positions, listing);
+        Ok(form) => {
+            list_all(c, form, elements, positions, listing);
             Ok(())
         }
         Err(refusal) => {

@@ -65,14 +65,14 @@ fn put_points(m: Cofactors, a: usize, b: usize, c: usize, out: &mut [Point]) -> 
 }
 
 // the points, of D and L, and zero behind them
-pub(crate) fn list_points(s: SmithForm, out: &mut [Point])
-    requires { Ready s.d (length out.old) }
-    ensures { out.new ≡ padded zero_point (points (state_of s)) (length out.old) }
+pub(crate) fn list_points(form: SmithForm, out: &mut [Point])
+    requires { Ready form.d (length out.old) }
+    ensures { out.new ≡ padded zero_point (points (state_of form)) (length out.old) }
 {
-    let m = inverse(s.l);
-    let a = usize::from(s.d[0][0].unsigned_abs());
-    let b = usize::from(s.d[1][1].unsigned_abs());
-    let c = usize::from(s.d[2][2].unsigned_abs());
+    let m = inverse(form.l);
+    let a = usize::from(form.d[0][0].unsigned_abs());
+    let b = usize::from(form.d[1][1].unsigned_abs());
+    let c = usize::from(form.d[2][2].unsigned_abs());
     let n = put_points(m, a, b, c, out);
     clear(out, n);
 }
@@ -96,11 +96,11 @@ fn diagonalise_for(c: Linear, room: usize) -> Result<SmithForm, Refusal>
     if !in_range(c) {
         return Err(Refusal::MatrixEntry);
     }
-    let s = diagonalise(c)?;
+    let form = diagonalise(c)?;
     if room < copies(c) {
         return Err(Refusal::Buffer);
     }
-    Ok(s)
+    Ok(form)
 }
 
 // L⁻¹f for each f below the diagonal of D, last fastest
@@ -108,8 +108,8 @@ pub fn lattice_points(c: Linear, out: &mut [Point]) -> Verdict
     ensures { PointsPromise c out.old out.new result }
 {
     match diagonalise_for(c, out.len()) {
-        Ok(s) => {
-            list_points(s, out);
+        Ok(form) => {
+            list_points(form, out);
             Ok(())
         }
         Err(refusal) => {
@@ -131,6 +131,6 @@ fn diagonal(d: SnfMatrix) -> [i16; 3]
 pub fn invariant_factors(c: Linear) -> Result<[i16; 3], Refusal>
     ensures { FactorsPromise c result }
 {
-    let s = diagonalise_for(c, MOST_COPIES)?;
-    Ok(diagonal(s.d))
+    let form = diagonalise_for(c, MOST_COPIES)?;
+    Ok(diagonal(form.d))
 }

@@ -31,19 +31,19 @@ returns-then-not-in_range c =
     refused_with_lem _ _ MatrixEntry
     (checked _ (is_true (ap not (sym c.in_range.ensures ∙ c.if-not-in_range.true)), (untested, (untested, (untested, tt)))) (Err MatrixEntry) refl)
 
-pub returns-in_err-s : goal.returns-in_err-s
-returns-in_err-s c =
+pub returns-in_err-form : goal.returns-in_err-form
+returns-in_err-form c =
     let a = c.args in
-    let k = c.in_err-s.field-0.0 in
+    let k = c.in_err-form.field-0.0 in
     let cs = points_conditions a.c a.room in
     passed_on (λ r. Returns cs (IsSnf a.c) (outcome state_of r)) k c.from_residual.result c.from_residual.ensures.1
-    (refused_with_lem cs (IsSnf a.c) k (refused (goal.at.returns-in_err-s c).Else-not-in_range k c.in_err-s.ensures))
+    (refused_with_lem cs (IsSnf a.c) k (refused (goal.at.returns-in_err-form c).Else-not-in_range k c.in_err-form.ensures))
 
 pub returns-then-room-copies : goal.returns-then-room-copies
 unfolding verdict_of
 returns-then-room-copies c =
     let short = ap (ltb c.args.room) (sym c.copies.ensures) ∙ lt-ltb _ _ c.if-room-copies.true in
-    let e = c.in_ok-s.ensures in
+    let e = c.in_ok-form.ensures in
     refused_with_lem _ _ Buffer
     (checked _ (is_false (entries (goal.at.returns-then-room-copies c).Else-not-in_range), (is_false e.0, (fails e.1, (is_true short, tt)))) (Err Buffer) refl)
 
@@ -51,5 +51,5 @@ pub returns : goal.returns
 unfolding verdict_of
 returns c =
     let room = ap (ltb c.args.room) (sym c.copies.ensures) ∙ le-ltb _ _ c.if-room-copies.false in
-    let e = c.in_ok-s.ensures in
+    let e = c.in_ok-form.ensures in
     accepted_with _ _ _ (checked _ (is_false (entries (goal.at.returns c).Else-not-in_range), (is_false e.0, (fails e.1, (is_false room, tt)))) (Ok tt) refl) e.2

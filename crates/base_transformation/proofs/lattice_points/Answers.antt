@@ -16,15 +16,15 @@ list_points-requires c =
     let a = c.args in
     let x = c.in-Ok in
     let m = length a.out.now in
-    ready a.c m (checked_in (points_conditions a.c m) (IsSnf a.c) state_of (Ok x.s) x.ensures) (good_three w8 a.c c.well_formed.0) (state_of x.s) x.ensures.1
+    ready a.c m (checked_in (points_conditions a.c m) (IsSnf a.c) state_of (Ok x.form) x.ensures) (good_three w8 a.c c.well_formed.0) (state_of x.form) x.ensures.1
 
 pub returns-in-Ok : goal.returns-in-Ok
 unfolding Returns
 returns-in-Ok c =
     let a = c.args in
     let x = c.in-Ok in (
-      checked_in (points_conditions a.c (length a.out.now)) (IsSnf a.c) state_of (Ok x.s) x.ensures,
-      points-lent a.c (state_of x.s) a.out.now c.list_points.new.out x.ensures.1 c.list_points.ensures,
+      checked_in (points_conditions a.c (length a.out.now)) (IsSnf a.c) state_of (Ok x.form) x.ensures,
+      points-lent a.c (state_of x.form) a.out.now c.list_points.new.out x.ensures.1 c.list_points.ensures,
     )
 
 pub returns-in-Err : goal.returns-in-Err

@@ -9,11 +9,11 @@ use Rattle.base_transformation.proofs.list_points.Goals as goal
 use Rattle.base_transformation.proofs.list_points.Goals.{Start}
 
 -- what is read of D's diagonal
-sized : (s : Start) (i : ℕ) {n k : ℕ} → n ≡ k → k ≡ nat_abs (to_z w16 (of_z w16 (at s.args.s.d i i))) → n ≡ nat_abs (at s.args.s.d i i)
-sized s i f e = f ∙ e ∙ ap nat_abs (to_z-of_z w16 _ (good_entry w16 s.args.s.d s.well_formed.0.1.1.0 i i))
+sized : (s : Start) (i : ℕ) {n k : ℕ} → n ≡ k → k ≡ nat_abs (to_z w16 (of_z w16 (at s.args.form.d i i))) → n ≡ nat_abs (at s.args.form.d i i)
+sized s i f e = f ∙ e ∙ ap nat_abs (to_z-of_z w16 _ (good_entry w16 s.args.form.d s.well_formed.0.1.1.0 i i))
 
 pub returns : goal.returns
 returns c =
     let a = c.args in
     let s = (goal.at.returns c).Start in
-    listed (state_of a.s) c.from-a.result c.from-b.result c.from-c.result (sized s 0 c.from-a.ensures c.unsigned_abs.ensures.value) (sized s 1 c.from-b.ensures c.unsigned_abs-2.ensures.value) (sized s 2 c.from-c.ensures c.unsigned_abs-3.ensures.value) a.out.now c.requires c.inverse-m.result c.put_points-n.result c.put_points-n.new.out c.clear.new.out c.inverse-m.ensures c.put_points-n.ensures.0 c.put_points-n.ensures.1 c.clear.ensures
+    listed (state_of a.form) c.from-a.result c.from-b.result c.from-c.result (sized s 0 c.from-a.ensures c.unsigned_abs.ensures.value) (sized s 1 c.from-b.ensures c.unsigned_abs-2.ensures.value) (sized s 2 c.from-c.ensures c.unsigned_abs-3.ensures.value) a.out.now c.requires c.inverse-m.result c.put_points-n.result c.put_points-n.new.out c.clear.new.out c.inverse-m.ensures c.put_points-n.ensures.0 c.put_points-n.ensures.1 c.clear.ensures

@@ -98,19 +98,19 @@ returns-then-not-all_cells_within c =
     refused_with_lem _ _ FloatRange
     (refuse _ 2 p (so (ap not (sym c.all_cells_within.ensures) ∙ (ap not c.if-not-all_cells_within.true))) (Err FloatRange) refl)
 
-pub returns-in_err-s : goal.returns-in_err-s
-returns-in_err-s c =
-    let at = goal.at.returns-in_err-s c in
-    let k = c.in_err-s.field-0.0 in
+pub returns-in_err-form : goal.returns-in_err-form
+returns-in_err-form c =
+    let at = goal.at.returns-in_err-form c in
+    let k = c.in_err-form.field-0.0 in
     let cs = conditions at.Start in
     passed_on (λ r. Returns cs (IsSnf c.args.c) (outcome state_of r)) k c.from_residual.result c.from_residual.ensures.1
-    (refused_with_lem cs (IsSnf c.args.c) k (refused at.Else-not-all_cells_within k c.in_err-s.ensures))
+    (refused_with_lem cs (IsSnf c.args.c) k (refused at.Else-not-all_cells_within k c.in_err-form.ensures))
 
 pub returns-then-listed-gt-MOST_LISTED : goal.returns-then-listed-gt-MOST_LISTED
 unfolding verdict_of found_at_lem HoldsAt
 returns-then-listed-gt-MOST_LISTED c =
     let p = (goal.at.returns-then-listed-gt-MOST_LISTED c).Else-not-all_cells_within in
-    let e = c.in_ok-s.ensures in
+    let e = c.in_ok-form.ensures in
     refused_with_lem _ _ ListedSites
     (refuse _ 5 (past₅ p e.0 e.1 c.copies.ensures) (so (sym (many p e.0 e.1 c.copies.ensures) ∙ lt-ltb _ _ c.if-listed-gt-MOST_LISTED.true)) (Err ListedSites) refl)
 
@@ -118,7 +118,7 @@ pub returns-then-lacks_room : goal.returns-then-lacks_room
 unfolding verdict_of found_at_lem HoldsAt
 returns-then-lacks_room c =
     let p = (goal.at.returns-then-lacks_room c).Else-not-all_cells_within in
-    let e = c.in_ok-s.ensures in
+    let e = c.in_ok-form.ensures in
     refused_with_lem _ _ Buffer
     (refuse _ 6 (past₆ p e.0 e.1 c.copies.ensures (le-ltb _ _ c.if-listed-gt-MOST_LISTED.false)) (so (sym (tight p e.0 e.1 c.copies.ensures) ∙ sym c.lacks_room.ensures ∙ c.if-lacks_room.true)) (Err Buffer) refl)
 
@@ -126,7 +126,7 @@ pub returns : goal.returns
 unfolding verdict_of found_none HoldsAt
 returns c =
     let p = (goal.at.returns c).Else-not-all_cells_within in
-    let e = c.in_ok-s.ensures in
+    let e = c.in_ok-form.ensures in
     accepted_with _ _ _
     (accept _ (pass (conditions (start₃ p)) 6 (past₆ p e.0 e.1 c.copies.ensures (le-ltb _ _ c.if-listed-gt-MOST_LISTED.false)) (not_so (sym (tight p e.0 e.1 c.copies.ensures) ∙ sym c.lacks_room.ensures ∙ c.if-lacks_room.false))) refl)
     e.2

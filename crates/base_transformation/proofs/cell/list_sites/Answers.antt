@@ -14,22 +14,22 @@ abbrev lent : Start → ListingCells
 lent s = held s.args.listing.now
 
 -- the conditions by the rooms of the lent lists
-ended : (c : In-Ok) → let s = (goal.at.In-Ok c).Start in let a = s.args in Ended a.c a.elements.now a.positions.now (lent s) (accepted (state_of c.in-Ok.s))
+ended : (c : In-Ok) → let s = (goal.at.In-Ok c).Start in let a = s.args in Ended a.c a.elements.now a.positions.now (lent s) (accepted (state_of c.in-Ok.form))
 ended c =
     let a = (goal.at.In-Ok c).Start.args in
-    subst (λ (r : List ℕ). Returns (list_conditions a.c a.elements.now a.positions.now r) (IsSnf a.c) (accepted (state_of c.in-Ok.s))) c.rooms.ensures c.in-Ok.ensures
+    subst (λ (r : List ℕ). Returns (list_conditions a.c a.elements.now a.positions.now r) (IsSnf a.c) (accepted (state_of c.in-Ok.form))) c.rooms.ensures c.in-Ok.ensures
 
 pub list_all-requires : goal.list_all-requires
 list_all-requires c =
     let a = c.args in
     let at = goal.at.list_all-requires c in
-    listed_ready a.c a.elements.now a.positions.now (lent at.Start) (good_three w8 a.c c.well_formed.0) (state_of c.in-Ok.s) (ended at.In-Ok)
+    listed_ready a.c a.elements.now a.positions.now (lent at.Start) (good_three w8 a.c c.well_formed.0) (state_of c.in-Ok.form) (ended at.In-Ok)
 
 pub returns-in-Ok-clause-listed : goal.returns-in-Ok-clause-listed
 returns-in-Ok-clause-listed c =
     let a = c.args in
     let at = goal.at.returns-in-Ok-clause-listed c in
-    keep-accepted a.c a.elements.now a.positions.now (lent at.Start) (good_three w8 a.c c.well_formed.0) (state_of c.in-Ok.s) (ended at.In-Ok) _
+    keep-accepted a.c a.elements.now a.positions.now (lent at.Start) (good_three w8 a.c c.well_formed.0) (state_of c.in-Ok.form) (ended at.In-Ok) _
     c.list_all.ensures.listed
 
 pub returns-in-Err-clause-listed : goal.returns-in-Err-clause-listed
