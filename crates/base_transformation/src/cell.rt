@@ -62,8 +62,8 @@ fn put_run<T: Copy, F: Fn(usize, usize) -> T>(i: usize, run: &mut [T], entry: &F
     requires { CanMake F.Fn entry.now (i + 1) (length run.old) }
     ensures { (made : List T) → length made ≡ length run.old → MakesRun F.Fn entry.now i made → run.new ≡ made }
 {
-    for k in 0..run.len() {
-        run[k] = entry(i, k);
+    for (k, x) in run.iter_mut().enumerate() {
+        *x = entry(i, k);
     }
 }
 
@@ -74,6 +74,7 @@ fn list_runs<T: Zero, F: Fn(usize, usize) -> T>(n: usize, m: usize, out: &mut [T
     ensures { (made : List T) → length made ≡ n * m → Makes F.Fn entry n m made →
         out.new ≡ padded T.ZERO made (length out.old) }
 {
+    // no `chunks_exact_mut`, which takes no length 0: there may be no points
     for i in 0..n {
         put_run(i, &mut out[i * m..i * m + m], &entry);
     }
