@@ -1,31 +1,27 @@
--- The candidates of a list, one behind the other: the first refusal of all, and the spaces in the lent lists.
+-- The candidates of a list, one behind the other: the first refusal of all, and the spaces in the lent list.
 use Prim.Native.Nat.{ℕ, suc, ◌+◌, ◌≤◌, ◌<◌}
-use mathlib.Core.Path.{◌≡◌, refl, sym, ap, subst, ◌∙◌}
-use mathlib.Core.Bool.{Bool, true, false}
+use mathlib.Core.Path.{◌≡◌, refl, sym, subst, ◌∙◌}
 use mathlib.Core.List.{List, [], ◌∷◌, ◌++◌, map, map-append, append_assoc}
 use mathlib.Core.Logic.{◌⊎◌, inl, inr, ⊎_elim}
 use native.Mathlib.Omega.{arith}
 use native.Mathlib.Numerals.{add-one}
-use lib.Dec.{T}
-use lib.Ieee.{Float}
 use lib.ListN.{length, get_or, set, take, drop, length-set, length-append, length-map, length-take}
 use lib.Seq.{take-suc, drop-cons, set-append_seam}
 use Rattle.std.specs.Prelude.{Err, Ok}
+use Rattle.definitions.specs.declared.Refusal.{Refusal}
 use Rattle.definitions.specs.declared.Refusal.TheVariants.{Coordinates, Diagonalisation}
+use Rattle.definitions.specs.Coordinates.{Readable}
 use Rattle.definitions.specs.Lent.{position_from, cells_of}
 use Rattle.definitions.specs.Lists.{any, Some}
 use Rattle.definitions.specs.Refusal.{Condition, ◌when◌, coordinates, diagonalisation, number, Verdict, Checked, Returns}
-use Rattle.definitions.specs.Refusal.{Applies, upto, precedence}
-use Rattle.definitions.specs.Matrix.{Matrix}
-use Rattle.definitions.specs.SiteCalls.{SpaceCells, space_from, SpaceLent}
-use Rattle.definitions.specs.Snf.{State}
+use Rattle.definitions.specs.Refusal.{Applies, upto, precedence, accepted, refused}
+use Rattle.definitions.specs.SiteCalls.{prepare_conditions, PreparePromise}
 use Rattle.definitions.specs.Standardize.{TextLeaves}
-use Rattle.definitions.specs.Coordinates.{Readable}
 use Rattle.definitions.specs.Wyckoff.{Space, IsSpace, AreSpaces}
 use Rattle.laws.specs.Order.{numbered, FailAll, past, FailBefore, past_before, applies_last}
 use Rattle.laws.specs.Verdicts.{HoldsAt, Passed, found_at_lem, found_none, refuse, accept, verdict_of, number_one}
 use Rattle.data_wyckoff.specs.declared.space.Space as code
-use Rattle.data_wyckoff.specs.Spaces.{PreparesAs, written, PutSpace, put_at, first_of, texts_conditions, Stored, StoredSpaces, PutSpaces}
+use Rattle.data_wyckoff.specs.Spaces.{space_of, cells_of_space, first_of, texts_conditions, Stored, PutSpaces}
 
 -- ---- the refusals of one candidate or of several: 6 where P, 8 where Q
 
@@ -61,17 +57,21 @@ module _ {P Q : Type 0} where
   checked_found v (six p) = refuse (six_eight P Q) 0 tt p (Err Coordinates) refl
   checked_found v (eight p q) = refuse (six_eight P Q) 1 (p, tt) q (Err Diagonalisation) refl
 
-  -- of both
-  joined : {P' Q' : Type 0} (v w : Verdict) → Found P Q v → Found P' Q' w → Found (P ⊎ P') (Q ⊎ Q') (first_of v w)
-  joined v w (neither p q) (neither p' q') = neither (⊎_elim p p') (⊎_elim q q')
-  joined v w (neither p q) (six p') = six (inr p')
-  joined v w (neither p q) (eight p' q') = eight (⊎_elim p p') (inr q')
-  joined v w (six p) (neither p' q') = six (inl p)
-  joined v w (six p) (six p') = six (inl p)
-  joined v w (six p) (eight p' q') = six (inl p)
-  joined v w (eight p q) (neither p' q') = eight (⊎_elim p p') (inl q)
-  joined v w (eight p q) (six p') = six (inr p')
-  joined v w (eight p q) (eight p' q') = eight (⊎_elim p p') (inl q)
+  -- of others and of one more
+  joined_ok : {P' Q' : Type 0} (v : Verdict) → Found P Q v → Found P' Q' (Ok tt) → Found (P ⊎ P') (Q ⊎ Q') v
+  joined_ok v (neither p q) (neither p' q') = neither (⊎_elim p p') (⊎_elim q q')
+  joined_ok v (six p) (neither p' q') = six (inl p)
+  joined_ok v (eight p q) (neither p' q') = eight (⊎_elim p p') (inl q)
+
+  joined-err :
+      {P' Q' : Type 0} (v : Verdict) (k : Refusal) → Found P Q v → Found P' Q' (Err k) →
+      Found (P ⊎ P') (Q ⊎ Q') (Err (first_of v k))
+  joined-err v k (neither p q) (six p') = six (inr p')
+  joined-err v k (neither p q) (eight p' q') = eight (⊎_elim p p') (inr q')
+  joined-err v k (six p) (six p') = six (inl p)
+  joined-err v k (six p) (eight p' q') = six (inl p)
+  joined-err v k (eight p q) (six p') = six (inr p')
+  joined-err v k (eight p q) (eight p' q') = eight (⊎_elim p p') (inl q)
 
   renamed : {P' Q' : Type 0} (v : Verdict) → (P → P') → (P' → P) → (Q → Q') → (Q' → Q) → Found P Q v → Found P' Q' v
   renamed v f f' g g' (neither p q) = neither (λ x. p (f' x)) (λ x. q (g' x))
@@ -105,122 +105,101 @@ spaces-more [] (r ∷ ss) t s a i = absurd a
 spaces-more (u ∷ ts) [] t s a i = absurd a
 spaces-more (u ∷ ts) (r ∷ ss) t s a i = (a.0, spaces-more ts ss t s a.1 i)
 
-module _ (ts : List (List ℕ)) (t : List ℕ) (v w : Verdict) where
-  checked_more :
-      Checked (texts_conditions ts) v →
-      Checked (six_eight (Readable t → ⊥) (TextLeaves t)) w → Checked (texts_conditions (ts ++ (t ∷ []))) (first_of v w)
-  checked_more c d =
-      checked_found (first_of v w)
-      (renamed (first_of v w) (some_more (λ u. Readable u → ⊥) ts t) (some_less (λ u. Readable u → ⊥) ts t)
-      (some_more TextLeaves ts t) (some_less TextLeaves ts t) (joined v w (found v c) (found w d)))
+module _ (ts : List (List ℕ)) (t : List ℕ) (v : Verdict) where
+  one_more :
+      (w : Verdict) → Found (Some (λ u. Readable u → ⊥) ts ⊎ (Readable t → ⊥)) (Some TextLeaves ts ⊎ TextLeaves t) w →
+      Checked (texts_conditions (ts ++ (t ∷ []))) w
+  one_more w f =
+      checked_found w
+      (renamed w (some_more (λ u. Readable u → ⊥) ts t) (some_less (λ u. Readable u → ⊥) ts t)
+      (some_more TextLeaves ts t) (some_less TextLeaves ts t) f)
 
--- both are accepted
-abbrev pub is_accepted : Verdict → Bool
-is_accepted (Ok u) = true
-is_accepted (Err k) = false
+  accepted-more :
+      Checked (texts_conditions ts) v → Checked (prepare_conditions t) (Ok tt) →
+      Checked (texts_conditions (ts ++ (t ∷ []))) v
+  accepted-more c d = one_more v (joined_ok v (found v c) (found (Ok tt) d))
 
-both_accepted : (v w : Verdict) → first_of v w ≡ (Ok tt) → (v ≡ (Ok tt)) × (w ≡ (Ok tt))
-both_accepted (Ok u) w e = (refl, e)
-both_accepted (Err j) (Ok u) e = absurd (subst (λ u. T (is_accepted u)) (sym e) tt)
-both_accepted (Err j) (Err k) e = absurd (subst (λ u. T (is_accepted u)) (sym e) tt)
+  refused-more :
+      (k : Refusal) → Checked (texts_conditions ts) v → Checked (prepare_conditions t) (Err k) →
+      Checked (texts_conditions (ts ++ (t ∷ []))) (Err (first_of v k))
+  refused-more k c d = one_more (Err (first_of v k)) (joined-err v k (found v c) (found (Err k) d))
 
--- ---- the lists
+-- ---- the list
 
-module _ {A : Type 0} where
-  stored_none : (d : List A) → Stored d d []
-  stored_none d = record { long = refl; front = λ h. refl }
+-- one more behind those at the front
+front_more :
+    {A : Type 0} (d l a : List A) (i : ℕ) (x : A) → length a ≡ i → (i ≤ length d → l ≡ a ++ drop i d) →
+    suc i ≤ length d → set l i x ≡ (a ++ (x ∷ [])) ++ drop (suc i) d
+front_more d l a i x n f h =
+    let k : length a < length d = omega arith in
+    let g : i ≤ length d = omega arith in
+    rw (f g, ← n, drop-cons d (length a) x k, append_assoc a (x ∷ []) (drop (suc (length a)) d))
+    (set-append_seam a (get_or d (length a) x) (drop (suc (length a)) d) x)
 
-  stored_more : (d l a : List A) (i : ℕ) (x : A) → length a ≡ i → Stored d l a → Stored d (set l i x) (a ++ (x ∷ []))
-  stored_more d l a i x n s = record { long = length-set l i x ∙ s.long; front = put }
-    where
-      put : length (a ++ (x ∷ [])) ≤ length d → set l i x ≡ (a ++ (x ∷ [])) ++ drop (length (a ++ (x ∷ []))) d
-      put h =
-          let e : length (a ++ (x ∷ [])) ≡ suc (length a) = length-append a (x ∷ []) ∙ omega arith in
-          let k : length a < length d = omega (arith, e) in
-          let f : length a ≤ length d = omega (arith, k) in
-          rw (← n, s.front f, drop-cons d (length a) x k, e, append_assoc a (x ∷ []) (drop (suc (length a)) d))
-          (set-append_seam a (get_or d (length a) x) (drop (suc (length a)) d) x)
-
-module _ {A : Type 0} (f : Space → A) (d l : List A) (ss : List Space) (s : Space) (i : ℕ) (n : length ss ≡ i) where
-  stored_map : Stored d l (map f ss) → Stored d (set l i (f s)) (map f (ss ++ (s ∷ [])))
-  stored_map h =
-      subst (Stored d (set l i (f s))) (sym (map-append f ss (s ∷ [])))
-      (stored_more d l (map f ss) i (f s) (length-map ss f ∙ n) h)
-
-stored_put :
-    (e x : SpaceCells) (ss : List Space) (s : Space) (i : ℕ) → length ss ≡ i → StoredSpaces e x ss →
-    StoredSpaces e (put_at x i s) (ss ++ (s ∷ []))
-stored_put e x ss s i n h =
-    record {
-      matrices = stored_map (λ s. s.matrix) e.matrices x.matrices ss s i n h.matrices;
-      shifts = stored_map (λ s. cells_of s.shift) e.shifts x.shifts ss s i n h.shifts;
-      ds = stored_map (λ s. s.snf.d) e.ds x.ds ss s i n h.ds;
-      ls = stored_map (λ s. s.snf.l) e.ls x.ls ss s i n h.ls;
-      rs = stored_map (λ s. s.snf.r) e.rs x.rs ss s i n h.rs;
-    }
-
--- ---- one candidate at its place
-
-cells_back :
-    (text : List ℕ) (m : Matrix) (q : List Float) (s : State) (v : Verdict) → SpaceLent text m q s v →
-    cells_of (position_from q) ≡ q
-cells_back text m q s (Ok u) l = l.1
-cells_back text m q s (Err k) l = subst (λ w. cells_of (position_from w) ≡ w) (sym l.1) refl
-
-pub put_one :
-    (text : List ℕ) (i : ℕ) (e y : SpaceCells) (s : code.Space) (v : Verdict) → PreparesAs text s v → y ≡ written e i s →
-    PutSpace text i e y v
-put_one text i e y s v p w =
-    let n : State = record { d = s.d; l = s.l; r = s.r } in
-    record {
-      space = space_from s.matrix s.shift n;
-      checked = p.0;
-      right = λ told. (subst (SpaceLent text s.matrix s.shift n) told p.1).0;
-      stored =
-          w
-          ∙ ap (λ q. written e i (record { matrix = s.matrix; shift = q; d = s.d; l = s.l; r = s.r }))
-          (sym (cells_back text s.matrix s.shift n v p.1));
-    }
+-- a space as it is stored
+same_space : (s : code.Space) → cells_of (position_from s.shift) ≡ s.shift → cells_of_space (space_of s) ≡ s
+same_space s e = λ i. record { matrix = s.matrix; shift = e i; d = s.d; l = s.l; r = s.r }
 
 -- ---- the loop
 
-pub put_none : (e : SpaceCells) → PutSpaces [] e e (Ok tt)
+pub put_none : (e : List code.Space) → PutSpaces [] e e (Ok tt)
 unfolding Some AreSpaces
 put_none e =
     record {
-      spaces = [];
-      count = refl;
+      long = refl;
       checked = checked_found (Ok tt) (neither (λ s. s) (λ s. s));
-      right = λ t. tt;
-      stored =
-          record {
-            matrices = stored_none e.matrices;
-            shifts = stored_none e.shifts;
-            ds = stored_none e.ds;
-            ls = stored_none e.ls;
-            rs = stored_none e.rs;
-          };
+      stored = λ t. record { spaces = []; count = refl; right = tt; front = λ h. refl };
     }
 
-put_next :
-    (ts : List (List ℕ)) (t : List ℕ) (e x y : SpaceCells) (v w : Verdict) → PutSpaces ts e x v →
-    PutSpace t (length ts) x y w → PutSpaces (ts ++ (t ∷ [])) e y (first_of v w)
-put_next ts t e x y v w p q =
-    record {
-      spaces = p.spaces ++ (q.space ∷ []);
-      count = length-append p.spaces (q.space ∷ []) ∙ ap (λ n. n + 1) p.count ∙ sym (length-append ts (t ∷ []));
-      checked = checked_more ts t v w p.checked q.checked;
-      right = λ h. let b = both_accepted v w h in spaces-more ts p.spaces t q.space (p.right b.0) (q.right b.1);
-      stored =
-          subst (λ z. StoredSpaces e z (p.spaces ++ (q.space ∷ []))) (sym q.stored)
-          (stored_put e x p.spaces q.space (length ts) p.count p.stored);
-    }
+module _ (ts : List (List ℕ)) (t : List ℕ) (e x : List code.Space) (v : Verdict) (p : PutSpaces ts e x v) where
+  count_more : length (ts ++ (t ∷ [])) ≡ suc (length ts)
+  count_more = length-append ts (t ∷ []) ∙ omega arith
+
+  put_next :
+      (s : code.Space) → PreparePromise t (accepted (space_of s)) → cells_of (position_from s.shift) ≡ s.shift →
+      PutSpaces (ts ++ (t ∷ [])) e (set x (length ts) s) v
+  unfolding Checked Returns
+  put_next s d f =
+      record {
+        long = length-set x (length ts) s ∙ p.long;
+        checked = accepted-more ts t v p.checked (d.0, tt);
+        stored = λ told. stored (p.stored told);
+      }
+    where
+      stored : Stored ts e x → Stored (ts ++ (t ∷ [])) e (set x (length ts) s)
+      stored w =
+          record {
+            spaces = w.spaces ++ (space_of s ∷ []);
+            count = length-append w.spaces (space_of s ∷ []) ∙ omega (arith, w.count, count_more);
+            right = spaces-more ts w.spaces t (space_of s) w.right d.1;
+            front =
+                λ h.
+                rw (count_more, map-append cells_of_space w.spaces (space_of s ∷ []), same_space s f)
+                (front_more e x (map cells_of_space w.spaces) (length ts) s
+                (length-map w.spaces cells_of_space ∙ w.count) w.front (subst (λ n. n ≤ length e) count_more h));
+          }
+
+  not_put :
+      (k : Refusal) → PreparePromise t (refused (number k)) → PutSpaces (ts ++ (t ∷ [])) e x (Err (first_of v k))
+  unfolding Checked Returns
+  not_put k d =
+      record { long = p.long; checked = refused-more ts t v k p.checked d; stored = λ told. absurd (cc) }
 
 -- the candidate at place i, behind those before it
-pub put-more :
-    (ts : List (List ℕ)) (i : ℕ) (e x y : SpaceCells) (v w r : Verdict) → i < length ts → PutSpaces (take i ts) e x v →
-    PutSpace (get_or ts i []) i x y w → r ≡ first_of v w → PutSpaces (take (i + 1) ts) e y r
-put-more ts i e x y v w r h p q f =
-    let n : length (take i ts) ≡ i = omega (arith, length-take i ts) in
-    rw (add-one i, take-suc ts i [] h, f)
-    (put_next (take i ts) (get_or ts i []) e x y v w p (subst (λ k. PutSpace (get_or ts i []) k x y w) (sym n) q))
+module _ (ts : List (List ℕ)) (i : ℕ) (h : i < length ts) (e x : List code.Space) (v : Verdict) (p : PutSpaces (take i ts) e x v) where
+  before : length (take i ts) ≡ i
+  before = omega (arith, length-take i ts)
+
+  pub put-more :
+      (s : code.Space) (y : List code.Space) → PreparePromise (get_or ts i []) (accepted (space_of s)) →
+      cells_of (position_from s.shift) ≡ s.shift → y ≡ set x i s → PutSpaces (take (i + 1) ts) e y v
+  put-more s y d f w =
+      rw (add-one i, take-suc ts i [] h, w)
+      (subst (λ k. PutSpaces (take i ts ++ (get_or ts i [] ∷ [])) e (set x k s) v) before
+      (put_next (take i ts) (get_or ts i []) e x v p s d f))
+
+  pub refused_behind :
+      (k r : Refusal) → PreparePromise (get_or ts i []) (refused (number k)) → r ≡ first_of v k →
+      PutSpaces (take (i + 1) ts) e x (Err r)
+  refused_behind k r d w =
+      rw (add-one i, take-suc ts i [] h, w) (not_put (take i ts) (get_or ts i []) e x v p k d)

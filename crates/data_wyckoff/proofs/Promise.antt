@@ -1,179 +1,163 @@
 -- The verdict of the call that prepares every candidate, and how its promise is kept.
-use Prim.Native.Nat.{ℕ, ◌≤◌}
+use Prim.Native.Nat.{ℕ, zero, suc, ◌-◌, ◌≤◌, ◌<◌}
 use mathlib.Core.Path.{◌≡◌, refl, sym, ap, subst, ◌∙◌}
-use mathlib.Core.Bool.{Bool, true, false}
-use mathlib.Core.List.{List, [], ◌∷◌, map}
-use lib.Dec.{T}
-use lib.ListN.{length, length-map}
-use borrow.Author.Tests.{ltb-false}
+use mathlib.Core.Bool.{Bool, true, false, ◌||◌}
+use mathlib.Core.List.{List, [], ◌∷◌, map, map-append, map-map}
+use lib.ListN.{length, replicate, length-map}
+use borrow.Author.Tests.{lt-ltb, le-ltb}
 use Rattle.std.specs.Prelude.{Err, Ok}
 use Rattle.definitions.specs.declared.Refusal.{Refusal}
 use Rattle.definitions.specs.declared.Refusal.TheVariants.{Counts, Coordinates, Diagonalisation, Buffer}
-use Rattle.definitions.specs.Lent.{cells_of, zero_cells, zero_matrix}
 use Rattle.definitions.specs.Limits.{too_many_candidates, shorter_than}
 use Rattle.definitions.specs.Lists.{any, Some}
-use Rattle.definitions.specs.Refusal.{Verdict, Checked, padded}
-use Rattle.definitions.specs.SiteCalls.{SpaceCells, space_rooms, HoldsSpaces, prepare_all_conditions, PrepareAllPromise}
+use Rattle.definitions.specs.Refusal.{Checked, padded, Holds}
+use Rattle.definitions.specs.SiteCalls.{space_rooms, HoldsSpaces, prepare_all_conditions, PrepareAllPromise}
 use Rattle.definitions.specs.Standardize.{BadCoordinates, TextLeaves}
 use Rattle.definitions.specs.Wyckoff.{Space, AreSpaces}
 use Rattle.laws.specs.Filling.{cut, padded_by}
-use Rattle.laws.specs.Lists.{none_head, none_tail}
-use Rattle.laws.specs.Order.{numbered, FailAll, past}
-use Rattle.laws.specs.Tests.{off, so, not_so}
+use Rattle.laws.specs.Lists.{list_any-is_any}
+use Rattle.laws.specs.Tests.{so, not_so}
 use Rattle.laws.specs.Verdicts.{HoldsAt, Passed, found_at_lem, found_none, refuse, accept, verdict_of, promise_accepted, promise_refused}
-use Rattle.data_wyckoff.specs.Spaces.{Stored, PutSpaces, with_room, Judged, Cut}
-use Rattle.data_wyckoff.proofs.Listed.{is_accepted, Found, neither, six, eight, found}
+use Rattle.data_wyckoff.specs.declared.space.Space as code
+use Rattle.data_wyckoff.specs.Spaces.{cells_of_space, zero_space, lists, PutSpaces, Judged}
+use Rattle.data_wyckoff.proofs.Listed.{Found, neither, six, eight, found}
 
 -- ---- the verdict
 
-module _ (texts : List (List ℕ)) (e : SpaceCells) where
-  judged-many : too_many_candidates (length texts) ≡ true → Checked (prepare_all_conditions texts (space_rooms e)) (Err Counts)
+-- five lists as long as one lack room just if it does
+same_room : (n m : ℕ) → any (shorter_than n) (m ∷ m ∷ m ∷ m ∷ m ∷ []) ≡ shorter_than n m
+same_room n m =
+    sym (list_any-is_any (shorter_than n) (m ∷ m ∷ m ∷ m ∷ m ∷ [])) ∙ by (shorter_than n m)
+  where
+    by : (b : Bool) → (b || (b || (b || (b || (b || false))))) ≡ b
+    by true = refl
+    by false = refl
+
+module _ (texts : List (List ℕ)) (e : List code.Space) where
+  room_is : any (shorter_than (length texts)) (space_rooms (lists e)) ≡ shorter_than (length texts) (length e)
+  room_is =
+      ap (any (shorter_than (length texts)))
+      (λ i.
+      length-map e (λ s. s.matrix) i
+      ∷ length-map e (λ s. s.shift) i
+      ∷ length-map e (λ s. s.d) i
+      ∷ length-map e (λ s. s.l) i
+      ∷ length-map e (λ s. s.r) i
+      ∷ [])
+      ∙ same_room (length texts) (length e)
+
+  judged-many : too_many_candidates (length texts) ≡ true → Checked (prepare_all_conditions texts (space_rooms (lists e))) (Err Counts)
   unfolding verdict_of found_at_lem Passed HoldsAt
-  judged-many h = refuse (prepare_all_conditions texts (space_rooms e)) 0 tt (so h) (Err Counts) refl
+  judged-many h = refuse (prepare_all_conditions texts (space_rooms (lists e))) 0 tt (so h) (Err Counts) refl
 
   pub too_many : too_many_candidates (length texts) ≡ true → Judged texts e e (Err Counts)
   too_many h =
-      record {
-        checked = judged-many h;
-        rooms = record { matrices = refl; shifts = refl; ds = refl; ls = refl; rs = refl };
-        put = λ told. absurd (subst (λ u. T (is_accepted u)) (sym told) tt);
-      }
+      record { long = refl; checked = judged-many h; room = λ told. absurd (cc); stored = λ told. absurd (cc) }
 
   module _ (few : too_many_candidates (length texts) ≡ false) where
-    judged_by :
-        (v : Verdict) (short : Bool) → Found (BadCoordinates texts) (Some TextLeaves texts) v →
-        any (shorter_than (length texts)) (space_rooms e) ≡ short →
-        Checked (prepare_all_conditions texts (space_rooms e)) (with_room v short)
-    unfolding verdict_of found_at_lem found_none Passed HoldsAt
-    judged_by v true (neither p q) r =
-        refuse (prepare_all_conditions texts (space_rooms e)) 3 (not_so few, (p, (q, tt))) (so r) (Err Buffer) refl
-    judged_by v false (neither p q) r =
-        accept (prepare_all_conditions texts (space_rooms e)) (not_so few, (p, (q, (not_so r, tt)))) refl
-    judged_by v short (six p) r = refuse (prepare_all_conditions texts (space_rooms e)) 1 (not_so few, tt) p (Err Coordinates) refl
-    judged_by v short (eight p q) r =
-        refuse (prepare_all_conditions texts (space_rooms e)) 2 (not_so few, (p, tt)) q (Err Diagonalisation) refl
+    judged_refused :
+        (k : Refusal) → Found (BadCoordinates texts) (Some TextLeaves texts) (Err k) →
+        Checked (prepare_all_conditions texts (space_rooms (lists e))) (Err k)
+    unfolding verdict_of found_at_lem Passed HoldsAt
+    judged_refused k (six p) =
+        refuse (prepare_all_conditions texts (space_rooms (lists e))) 1 (not_so few, tt) p (Err Coordinates) refl
+    judged_refused k (eight p q) =
+        refuse (prepare_all_conditions texts (space_rooms (lists e))) 2 (not_so few, (p, tt)) q
+        (Err Diagonalisation) refl
 
-    accepted-before : (v : Verdict) (short : Bool) → with_room v short ≡ (Ok tt) → v ≡ (Ok tt)
-    accepted-before (Ok u) short told = refl
-    accepted-before (Err k) short told = absurd (subst (λ u. T (is_accepted u)) (sym told) tt)
+    judged_short :
+        Found (BadCoordinates texts) (Some TextLeaves texts) (Ok tt) →
+        any (shorter_than (length texts)) (space_rooms (lists e)) ≡ true →
+        Checked (prepare_all_conditions texts (space_rooms (lists e))) (Err Buffer)
+    unfolding verdict_of found_at_lem Passed HoldsAt
+    judged_short (neither p q) r =
+        refuse (prepare_all_conditions texts (space_rooms (lists e))) 3 (not_so few, (p, (q, tt))) (so r)
+        (Err Buffer) refl
 
-    pub judged :
-        (x : SpaceCells) (v r : Verdict) (short : Bool) → PutSpaces texts e x v →
-        short ≡ any (shorter_than (length texts)) (space_rooms x) → r ≡ with_room v short → Judged texts e x r
-    judged x v r short p s w =
-        record {
-          checked =
-              subst (Checked (prepare_all_conditions texts (space_rooms e))) (sym w)
-              (judged_by v short (found v p.checked) (ap (any (shorter_than (length texts))) (sym rooms) ∙ sym s));
-          rooms =
-              record {
-                matrices = p.stored.matrices.long;
-                shifts = p.stored.shifts.long;
-                ds = p.stored.ds.long;
-                ls = p.stored.ls.long;
-                rs = p.stored.rs.long;
-              };
-          put =
-              λ told.
-              subst (PutSpaces texts e x) (accepted-before v short (sym w ∙ told) ∙ sym told) p;
-        }
-      where
-        rooms : space_rooms x ≡ space_rooms e
-        rooms = λ i.
-            p.stored.matrices.long i
-            ∷ p.stored.shifts.long i
-            ∷ p.stored.ds.long i
-            ∷ p.stored.ls.long i
-            ∷ p.stored.rs.long i
-            ∷ []
+    judged_whole :
+        Found (BadCoordinates texts) (Some TextLeaves texts) (Ok tt) →
+        any (shorter_than (length texts)) (space_rooms (lists e)) ≡ false →
+        Checked (prepare_all_conditions texts (space_rooms (lists e))) (Ok tt)
+    unfolding verdict_of found_none Passed HoldsAt
+    judged_whole (neither p q) r =
+        accept (prepare_all_conditions texts (space_rooms (lists e))) (not_so few, (p, (q, (not_so r, tt)))) refl
+
+    module _ (x : List code.Space) where
+      pub a_refusal : (k : Refusal) → PutSpaces texts e x (Err k) → Judged texts e x (Err k)
+      a_refusal k p =
+          record {
+            long = p.long;
+            checked = judged_refused k (found (Err k) p.checked);
+            room = λ told. absurd (cc);
+            stored = λ told. absurd (cc);
+          }
+
+      pub lacks_room : PutSpaces texts e x (Ok tt) → length x < length texts → Judged texts e x (Err Buffer)
+      lacks_room p h =
+          record {
+            long = p.long;
+            checked =
+                judged_short (found (Ok tt) p.checked)
+                (room_is ∙ lt-ltb (length e) (length texts) (subst (λ n. n < length texts) p.long h));
+            room = λ told. absurd (cc);
+            stored = λ told. absurd (cc);
+          }
+
+      pub has_room : PutSpaces texts e x (Ok tt) → length texts ≤ length x → Judged texts e x (Ok tt)
+      has_room p h =
+          let k : length texts ≤ length e = subst (λ n. length texts ≤ n) p.long h in
+          record {
+            long = p.long;
+            checked = judged_whole (found (Ok tt) p.checked) (room_is ∙ le-ltb (length e) (length texts) k);
+            room = λ told. k;
+            stored = p.stored;
+          }
 
 -- ---- the lists
 
--- a list that has room for its answer, zero behind it
-module _ {A : Type 0} (z : A) (f : Space → A) (d l m : List A) (ss : List Space) (n : ℕ) where
-  held :
-      length ss ≡ n → shorter_than n (length d) ≡ false → Stored d m (map f ss) → l ≡ cut z n m →
-      l ≡ padded z (map f ss) (length d)
-  held c room s e =
-      let long : length (map f ss) ≡ n = length-map ss f ∙ c in
-      let fits : n ≤ length d = ltb-false (length d) n room in
-      padded_by z (map f ss) d l m n long fits (rw (← long) (s.front (subst (λ k. k ≤ length d) (sym long) fits))) e
+module _ {A B : Type 0} (f : A → B) (z : A) where
+  map_replicate : (n : ℕ) → map f (replicate n z) ≡ replicate n (f z)
+  map_replicate zero = refl
+  map_replicate (suc n) = ap (λ l. f z ∷ l) (map_replicate n)
 
--- a list cleared whole
-cleared : {A : Type 0} (z : A) (d l m : List A) → length m ≡ length d → l ≡ cut z 0 m → l ≡ padded z [] (length d)
-cleared z d l m n e = e ∙ ap (padded z []) n
+  map_padded : (a : List A) (n : ℕ) → map f (padded z a n) ≡ padded (f z) (map f a) n
+  map_padded a n = rw (map-append f a (replicate (n - length a) z), map_replicate (n - length a), length-map a f)
 
--- room in each of five
-module _ (n a b c d e : ℕ) (h : any (shorter_than n) (a ∷ b ∷ c ∷ d ∷ e ∷ []) ≡ false) where
-  room₁ : any (shorter_than n) (b ∷ c ∷ d ∷ e ∷ []) ≡ false
-  room₁ = none_tail (shorter_than n) a (b ∷ c ∷ d ∷ e ∷ []) h
+module _ (e y : List code.Space) (ss : List Space) (h : y ≡ padded zero_space (map cells_of_space ss) (length e)) where
+  held : {A : Type 0} (f : code.Space → A) → Holds (f zero_space) (map f e) (map f y) (map (λ s. f (cells_of_space s)) ss)
+  held f =
+      ap (map f) h
+      ∙ map_padded f zero_space (map cells_of_space ss) (length e)
+      ∙ ap (λ a. padded (f zero_space) a (length e)) (map-map f cells_of_space ss)
+      ∙ ap (padded (f zero_space) (map (λ s. f (cells_of_space s)) ss)) (sym (length-map e f))
 
-  room₂ : any (shorter_than n) (c ∷ d ∷ e ∷ []) ≡ false
-  room₂ = none_tail (shorter_than n) b (c ∷ d ∷ e ∷ []) room₁
-
-  room₃ : any (shorter_than n) (d ∷ e ∷ []) ≡ false
-  room₃ = none_tail (shorter_than n) c (d ∷ e ∷ []) room₂
-
-  rooms_are :
-      (shorter_than n a ≡ false)
-      × (shorter_than n b ≡ false)
-      × (shorter_than n c ≡ false)
-      × (shorter_than n d ≡ false)
-      × (shorter_than n e ≡ false)
-  rooms_are = (
-    none_head (shorter_than n) a (b ∷ c ∷ d ∷ e ∷ []) h,
-    none_head (shorter_than n) b (c ∷ d ∷ e ∷ []) room₁,
-    none_head (shorter_than n) c (d ∷ e ∷ []) room₂,
-    none_head (shorter_than n) d (e ∷ []) room₃,
-    none_head (shorter_than n) e [] (none_tail (shorter_than n) d (e ∷ []) room₃),
-  )
-
-module _ (texts : List (List ℕ)) (e x y : SpaceCells) (v : Verdict) (j : Judged texts e x v) where
-  holds_all :
-      (p : PutSpaces texts e x v) → any (shorter_than (length texts)) (space_rooms e) ≡ false → Cut (length texts) x y →
-      HoldsSpaces e y p.spaces
-  holds_all p room k =
-      let n = length texts in
-      let r = rooms_are n (length e.matrices) (length e.shifts) (length e.ds) (length e.ls) (length e.rs) room in
+  holds_all : HoldsSpaces (lists e) (lists y) ss
+  holds_all =
       record {
-        matrices =
-            held zero_matrix (λ s. s.matrix)
-            e.matrices y.matrices x.matrices p.spaces n p.count r.0 p.stored.matrices k.0;
-        shifts =
-            held zero_cells (λ s. cells_of s.shift)
-            e.shifts y.shifts x.shifts p.spaces n p.count r.1 p.stored.shifts k.1;
-        ds =
-            held zero_matrix (λ s. s.snf.d)
-            e.ds y.ds x.ds p.spaces n p.count r.2 p.stored.ds k.2;
-        ls =
-            held zero_matrix (λ s. s.snf.l)
-            e.ls y.ls x.ls p.spaces n p.count r.3 p.stored.ls k.3;
-        rs =
-            held zero_matrix (λ s. s.snf.r)
-            e.rs y.rs x.rs p.spaces n p.count r.4 p.stored.rs k.4;
+        matrices = held (λ s. s.matrix);
+        shifts = held (λ s. s.shift);
+        ds = held (λ s. s.d);
+        ls = held (λ s. s.l);
+        rs = held (λ s. s.r);
       }
 
-  -- the five lists with the spaces in front, and zero behind them
-  pub keep-accepted : v ≡ (Ok tt) → Cut (length texts) x y → PrepareAllPromise texts e y v
-  unfolding numbered FailAll
-  keep-accepted told k =
-      let c = subst (Checked (prepare_all_conditions texts (space_rooms e))) told j.checked in
-      let p = j.put told in
-      let fails = past (prepare_all_conditions texts (space_rooms e)) tt c in
-      subst (PrepareAllPromise texts e y) (sym told)
-      (promise_accepted (prepare_all_conditions texts (space_rooms e)) (AreSpaces texts) (HoldsSpaces e y) (HoldsSpaces e y [])
-      p.spaces c (p.right told) (holds_all p (off _ fails.1.1.1.0) k))
+module _ (texts : List (List ℕ)) (e x y : List code.Space) where
+  -- the list with the spaces in front, and zero behind them
+  pub keep-accepted :
+      Judged texts e x (Ok tt) → y ≡ cut zero_space (length texts) x → PrepareAllPromise texts (lists e) (lists y) (Ok tt)
+  keep-accepted j k =
+      let s = j.stored refl in
+      let r = j.room refl in
+      promise_accepted (prepare_all_conditions texts (space_rooms (lists e))) (AreSpaces texts)
+      (HoldsSpaces (lists e) (lists y)) (HoldsSpaces (lists e) (lists y) []) s.spaces j.checked s.right
+      (holds_all e y s.spaces
+      (padded_by zero_space (map cells_of_space s.spaces) e y x (length texts)
+      (length-map s.spaces cells_of_space ∙ s.count) r (s.front r) k))
 
-  -- the five lists zero
-  pub keep_refused : {n : Refusal} → v ≡ Err n → Cut 0 x y → PrepareAllPromise texts e y v
-  keep_refused {n} told k =
-      subst (PrepareAllPromise texts e y) (sym told)
-      (promise_refused (prepare_all_conditions texts (space_rooms e)) (AreSpaces texts) (HoldsSpaces e y) (HoldsSpaces e y []) n
-      (subst (Checked (prepare_all_conditions texts (space_rooms e))) told j.checked)
-      (record {
-        matrices = cleared zero_matrix e.matrices y.matrices x.matrices j.rooms.matrices k.0;
-        shifts = cleared zero_cells e.shifts y.shifts x.shifts j.rooms.shifts k.1;
-        ds = cleared zero_matrix e.ds y.ds x.ds j.rooms.ds k.2;
-        ls = cleared zero_matrix e.ls y.ls x.ls j.rooms.ls k.3;
-        rs = cleared zero_matrix e.rs y.rs x.rs j.rooms.rs k.4;
-      }))
+  -- the list zero
+  pub keep_refused :
+      (n : Refusal) → Judged texts e x (Err n) → y ≡ cut zero_space 0 x → PrepareAllPromise texts (lists e) (lists y) (Err n)
+  keep_refused n j k =
+      promise_refused (prepare_all_conditions texts (space_rooms (lists e))) (AreSpaces texts)
+      (HoldsSpaces (lists e) (lists y)) (HoldsSpaces (lists e) (lists y) []) n j.checked
+      (holds_all e y [] (k ∙ ap (padded zero_space []) j.long))

@@ -13,7 +13,7 @@ ghost use Rattle.data_wyckoff.specs.Scan.{axis_after, digit_after, slash_after, 
 ghost use Rattle.data_wyckoff.specs.Scan.{row_of, end_of, term_at};
 ghost use Rattle.data_wyckoff.specs.Terms.{entries_of, ReadAs};
 
-use definitions::{Cells, Refusal, Rotation, Text, Verdict};
+use definitions::{Cells, Refusal, Rotation, Text};
 
 // What was read last of a term: nothing, a sign (true: `-`), a sign and a digit, these and a `/`, or an item.
 #[derive(Clone, Copy)]
@@ -287,20 +287,8 @@ fn read_terms(text: Text) -> Option<(Rotation, Cells)>
 }
 
 // moyo's `WyckoffPositionSpace::new` reads such a string; its Rust is not at hand, so document 01's grammar decides.
-pub fn read_coordinates(text: &Text, rows: &mut Rotation, origin: &mut Cells) -> Verdict
-    ensures { CoordinatesPromise text.now rows.new origin.new result }
+pub fn read_coordinates(text: &Text) -> Result<(Rotation, Cells), Refusal>
+    ensures { CoordinatesPromise text.now result }
 {
-    match read_terms(*text) {
-        Some(read) => {
-            let (m, q) = read;
-            *rows = m;
-            *origin = q;
-            Ok(())
-        }
-        None => {
-            *rows = [[0; 3]; 3];
-            *origin = [0.0; 3];
-            Err(Refusal::Coordinates)
-        }
-    }
+    read_terms(*text).ok_or(Refusal::Coordinates)
 }
