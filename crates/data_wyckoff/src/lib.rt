@@ -241,16 +241,12 @@ impl Row {
 
 // ---- a text
 
-// The first place from one on that has no space. A loop of its own, so that the padding costs little.
+// The first place from one on that has no space; that one itself, past the end.
 fn no_space(text: &[u8], from: usize) -> usize
     ensures { NoSpace text.now from result }
 {
-    for i in from..text.len() {
-        if text[i] != b' ' {
-            return i;
-        }
-    }
-    from.max(text.len())
+    let rest = &text[from.min(text.len())..];
+    from + rest.iter().position(|b| *b != b' ').unwrap_or(rest.len())
 }
 
 // The term that begins at a place and ends at a comma or the end. No `for`: `no_space` says where the next byte is.
