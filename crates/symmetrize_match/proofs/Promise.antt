@@ -11,11 +11,9 @@ use Rattle.definitions.specs.declared.Refusal.{Refusal}
 use Rattle.definitions.specs.declared.Refusal.TheVariants.{FloatRange, Coordinates, Diagonalisation}
 use Rattle.definitions.specs.Coordinates.{Readable}
 use Rattle.definitions.specs.Limits.{lattice_within, position_within, good_symprec}
-use Rattle.definitions.specs.Matrix.{Matrix}
 use Rattle.definitions.specs.Real.{RealMatrix}
-use Rattle.definitions.specs.Refusal.{Verdict, Checked}
-use Rattle.definitions.specs.SiteCalls.{match_conditions, MatchPromise, PreparePromise, space_from}
-use Rattle.definitions.specs.Snf.{State}
+use Rattle.definitions.specs.Refusal.{Verdict, Checked, Returns, accepted, refused, number}
+use Rattle.definitions.specs.SiteCalls.{match_conditions, MatchPromise, PreparePromise}
 use Rattle.definitions.specs.Standardize.{TextLeaves}
 use Rattle.definitions.specs.Wyckoff.{Space, IsSpace, match_of}
 use Rattle.laws.specs.Tests.{so, not_so}
@@ -46,14 +44,16 @@ module _ (basis : RealMatrix) (p : Position) (text : List ℕ) (symprec : Float)
     checked_by v (six n) = refuse (match_conditions basis p text symprec) 1 (not_so good, tt) n (Err Coordinates) refl
     checked_by v (eight n l) = refuse (match_conditions basis p text symprec) 2 (not_so good, (n, tt)) l (Err Diagonalisation) refl
 
-    module _ (m : Matrix) (q : List Float) (s : State) where
-      pub answered :
-          PreparePromise text m q s (Ok tt) → (r : Option Fit) → r ≡ match_of basis symprec (space_from m q s) p →
-          MatchPromise basis p text symprec (Ok r)
-      answered h r e =
-          accepted_with (match_conditions basis p text symprec) IsMatch r (checked_by (Ok tt) (found (Ok tt) h.0))
-          (space_from m q s, h.1.0, e)
+    pub answered :
+        (s : Space) → PreparePromise text (accepted s) → (r : Option Fit) → r ≡ match_of basis symprec s p →
+        MatchPromise basis p text symprec (Ok r)
+    unfolding Checked Returns
+    answered s h r e =
+        accepted_with (match_conditions basis p text symprec) IsMatch r (checked_by (Ok tt) (found (Ok tt) (h.0, tt)))
+        (s, h.1, e)
 
-      pub refused : (k : Refusal) → PreparePromise text m q s (Err k) → MatchPromise basis p text symprec (Err k)
-      refused k h =
-          refused_with_lem (match_conditions basis p text symprec) IsMatch k (checked_by (Err k) (found (Err k) h.0))
+    pub not_prepared :
+        (k : Refusal) → PreparePromise text (refused (number k)) → MatchPromise basis p text symprec (Err k)
+    unfolding Checked Returns
+    not_prepared k h =
+        refused_with_lem (match_conditions basis p text symprec) IsMatch k (checked_by (Err k) (found (Err k) h))

@@ -10,13 +10,14 @@ mod trial;
 
 ghost use Rattle.std.specs.Prelude.{◌≡◌, not, ◌||◌};
 ghost use Rattle.definitions.specs.Limits.{lattice_within, position_within, good_symprec};
-ghost use Rattle.definitions.specs.SiteCalls.{space_from, MatchPromise};
+ghost use Rattle.definitions.specs.SiteCalls.{MatchPromise};
+ghost use Rattle.data_wyckoff.specs.Spaces.{space_of};
 ghost use Rattle.symmetrize_match.specs.Match.{match_real, real_space, CountedDiagonal, diagonal_of};
 
 use bound::Tolerance;
 use checks::{good_symprec, lattice_within, position_within};
 use data_wyckoff::space::{Space, prepare};
-use definitions::{Basis, Cells, Fit, Position, Refusal, Rotation, SnfMatrix, Text};
+use definitions::{Basis, Fit, Position, Refusal, SnfMatrix, Text};
 use math_real::whole;
 use trial::Trial;
 
@@ -70,21 +71,15 @@ fn diagonal_of(d: SnfMatrix) -> Position
 }
 
 // A prepared candidate's whole numbers as floats.
-pub fn real_space(
-    matrix: Rotation,
-    shift: Cells,
-    d: SnfMatrix,
-    l: SnfMatrix,
-    r: SnfMatrix,
-) -> RealSpace
-    ensures { (result ≡ real_space (space_from matrix shift (record { d = d; l = l; r = r }))) × CountedDiagonal d }
+pub fn real_space(space: &Space) -> RealSpace
+    ensures { (result ≡ real_space (space_of space.now)) × CountedDiagonal space.now.d }
 {
     RealSpace {
-        matrix: whole::real(matrix),
-        shift: Position::from(shift),
-        diagonal: diagonal_of(d),
-        left: whole::real(l),
-        right: whole::real(r),
+        matrix: whole::real(space.matrix),
+        shift: Position::from(space.shift),
+        diagonal: diagonal_of(space.d),
+        left: whole::real(space.l),
+        right: whole::real(space.r),
     }
 }
 
@@ -100,14 +95,7 @@ pub fn match_coordinates(
     if bad_floats(basis, position, symprec) {
         return Err(Refusal::FloatRange);
     }
-    let mut given = Space {
-        matrix: [[0; 3]; 3],
-        shift: [0.0; 3],
-        d: [[0; 3]; 3],
-        l: [[0; 3]; 3],
-        r: [[0; 3]; 3],
-    };
-    prepare(text, &mut given)?;
-    let space = real_space(given.matrix, given.shift, given.d, given.l, given.r);
+    let given = prepare(text)?;
+    let space = real_space(&given);
     Ok(match_prepared(basis, symprec, &space, position))
 }
