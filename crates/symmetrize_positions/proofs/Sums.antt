@@ -1,5 +1,5 @@
 -- The sum over the targets, target by target.
-use Prim.Native.Nat.{ℕ, zero, suc, ◌+◌, ◌-◌, ◌*◌, ◌≤◌, ◌<◌}
+use Prim.Native.Nat.{ℕ, zero, suc, ◌+◌, ◌≤◌, ◌<◌}
 use mathlib.Core.Path.{◌≡◌, refl, sym, ap, ◌∙◌}
 use mathlib.Core.Bool.{true}
 use mathlib.Core.List.{List, [], ◌∷◌, map, foldl}
@@ -75,10 +75,15 @@ module _ (ps : List (List Float)) (gs : List Matrix) (vs : List (List Float)) (i
   unfolding symmetrized_at
   at_site p m s r by e h ep eb es em er = er ∙ rw (ep, em, es, eb, symmetrized_at, map_at position_from ps i [] origin h, length_operations gs vs e)
 
-pub more_is : (ps : List (List Float)) (m : RealMatrix) (t : Position) (images : List ℕ) (i j : ℕ) (v x : List Float) (q p d : Position)
-    → inverse_image images i ≡ j → q ≡ position_from (get_or ps j []) → p ≡ position_from (get_or ps i []) → d ≡ map_p off_round (sub_p (add_p (apply_f m q) t) p)
-    → x ≡ cells_of (add_p (position_from v) d) → x ≡ more ps m t images i v
-more_is ps m t images i j v x q p d ei eq ep ed ex = ex ∙ ap (λ y. cells_of (add_p (position_from v) y)) (ed ∙ rw (eq, ep, ei))
+pub more_is :
+    (ps : List (List Float)) (gs : List Matrix) (vs : List (List Float)) (images : List ℕ) (k i j : ℕ)
+    (m : RealMatrix) (t : Position) (v x : List Float) (q p d : Position)
+    → inverse_image (permutation_at (length ps) images k) i ≡ j → m ≡ real (get_or gs k []) → t ≡ position_from (get_or vs k [])
+    → q ≡ position_from (get_or ps j []) → p ≡ position_from (get_or ps i [])
+    → d ≡ map_p off_round (sub_p (add_p (apply_f m q) t) p)
+    → x ≡ cells_of (add_p (position_from v) d) → x ≡ more ps gs vs images k i v
+more_is ps gs vs images k i j m t v x q p d ei em et eq ep ed ex =
+    ex ∙ ap (λ y. cells_of (add_p (position_from v) y)) (ed ∙ rw (em, et, eq, ep, ei))
 
 pub mean_is : (ps : List (List Float)) (k i : ℕ) (v x : List Float) (p : Position) (by : Float)
     → p ≡ position_from (get_or ps i []) → by ≡ real_of (pos k) → x ≡ cells_of (add_p p (map_p (λ s. div binary64 s by) (position_from v))) → x ≡ mean ps k i v
@@ -90,20 +95,16 @@ module _ (ps : List (List Float)) (gs : List Matrix) (vs : List (List Float)) (i
   Summed k l = (i : ℕ) → i < length ps → get_or l i [] ≡ cells_of (sum_p (take k (all ps gs vs images i)))
 
   pub sums_more :
-      (k at : ℕ) (m : RealMatrix) (t : Position) (old new : List (List Float))
-      → length vs ≡ length gs → k < length gs → at ≡ k * length ps → is_permutation (length ps) (permutation_at (length ps) images k) ≡ true
-      → m ≡ real (get_or gs k []) → t ≡ position_from (get_or vs k [])
-      → Made (more ps m t (take (at + length ps - at) (drop at images))) (length ps) old new
-      → Summed k old → Summed (k + 1) new
-  sums_more k at m t old new e h z p em et made s i a =
-      let part = take (at + length ps - at) (drop at images) in
+      (k : ℕ) (old new : List (List Float)) → length vs ≡ length gs → k < length gs
+      → is_permutation (length ps) (permutation_at (length ps) images k) ≡ true
+      → Made (more ps gs vs images k) (length ps) old new → Summed k old → Summed (k + 1) new
+  sums_more k old new e h p made s i a =
       let perm = permutation_at (length ps) images k in
-      let w : at + length ps - at ≡ length ps = omega arith in
-      let same : part ≡ perm = rw (w, z) in
-      let j = inverse_image perm i in
-      let d : shifted m t ps (inverse_image part i) i ≡ get_or (all ps gs vs images i) k origin =
-      rw (same, em, et) (sym (is_shifted ps gs vs images i k j e h a ((permuted (length ps) perm p).within i a) refl)) in
-      made.front i a ∙ ap (more ps m t part i) (s i a) ∙ ap (λ x. cells_of (add_p (sum_p (take k (all ps gs vs images i))) x)) d ∙ ap cells_of (sum-suc ps gs vs images i k e h)
+      let within = (permuted (length ps) perm p).within i a in
+      let d = is_shifted ps gs vs images i k (inverse_image perm i) e h a within refl in
+      made.front i a ∙ ap (more ps gs vs images k i) (s i a)
+      ∙ ap (λ x. cells_of (add_p (sum_p (take k (all ps gs vs images i))) x)) (sym d)
+      ∙ ap cells_of (sum-suc ps gs vs images i k e h)
 
   pub sums_all : (k : ℕ) (l d : List (List Float)) → length vs ≡ length gs → length gs ≤ k → drop (length ps) l ≡ drop (length ps) d → Summed k l
       → Made (total ps gs vs images) (length ps) d l

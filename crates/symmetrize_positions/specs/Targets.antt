@@ -4,7 +4,7 @@ use Rattle.std.specs.Float.{binary64}
 use Rattle.std.specs.Float.Ieee.{div}
 use Rattle.definitions.specs.declared.Position.{Position}
 use Rattle.definitions.specs.Matrix.{Matrix}
-use Rattle.definitions.specs.Real.{RealMatrix, real_of, apply_f, add_p, sub_p, map_p, sum_p}
+use Rattle.definitions.specs.Real.{RealMatrix, real, real_of, apply_f, add_p, sub_p, map_p, sum_p}
 use Rattle.definitions.specs.Permutation.{is_permutation, permutation_at, inverse_image}
 use Rattle.definitions.specs.Symmetrization.{off_round, displacements, symmetrized_at}
 use Rattle.definitions.specs.Lent.{operations_from, permutations_of, position_from, cells_of}
@@ -27,9 +27,11 @@ Permuted n k images = (o : ℕ) → o < k → is_permutation n (permutation_at n
 abbrev pub shifted : RealMatrix → Position → List (List Float) → ℕ → ℕ → Position
 shifted m t ps j i = map_p off_round (sub_p (add_p (apply_f m (position_from (get_or ps j []))) t) (position_from (get_or ps i [])))
 
--- site i's sum v with the addend of one target, whose images are p
-abbrev pub more : List (List Float) → RealMatrix → Position → List ℕ → ℕ → List Float → List Float
-more ps m t p i v = cells_of (add_p (position_from v) (shifted m t ps (inverse_image p i) i))
+-- site i's sum v with the addend of target k
+abbrev pub more : List (List Float) → List Matrix → List (List Float) → List ℕ → ℕ → ℕ → List Float → List Float
+more ps gs vs images k i v =
+    let j = inverse_image (permutation_at (length ps) images k) i in
+    cells_of (add_p (position_from v) (shifted (real (get_or gs k [])) (position_from (get_or vs k [])) ps j i))
 
 -- site i's sum over all targets
 abbrev pub total : List (List Float) → List Matrix → List (List Float) → List ℕ → ℕ → List Float → List Float

@@ -11,6 +11,7 @@ ghost use Rattle.std.specs.Prelude.{◌≤◌, ◌≡◌, length};
 ghost use Rattle.definitions.specs.Refusal.{padded};
 ghost use Rattle.definitions.specs.Calls.{symmetrized_cells, transformed_cells, PositionsPromise};
 ghost use Rattle.definitions.specs.Lent.{zero_cells};
+ghost use Rattle.symmetrize_positions.specs.Targets.{Counted, Permuted};
 
 use crate::targets::Targets;
 use definitions::limits::MOST_SITES;
@@ -30,10 +31,12 @@ fn transform_and_fill(
     t: Linear,
     shift: Position,
     positions: &[Cells],
-    targets: &Targets,
+    targets: &GivenTargets,
     out: &mut [Cells],
 )
-    requires { (targets.now.sites ≡ length positions.now)
+    requires { Counted (length positions.now) (length targets.now.rotations.now)
+        (length targets.now.translations.now) (length targets.now.images.now)
+        × Permuted (length positions.now) (length targets.now.rotations.now) targets.now.images.now
         × (length positions.now ≤ length out.old) }
     ensures { out.new ≡ padded zero_cells
         (symmetrized_cells (transformed_cells t shift positions.now) targets.now.rotations.now
@@ -43,8 +46,13 @@ fn transform_and_fill(
     // no heap: a table for the most sites, of which the first n are written
     let mut held = [Cells::ZERO; MOST_SITES];
     transform::put_transformed(transform::real_inverse(t), shift, positions, &mut held);
-    let n = positions.len();
-    targets::fill(&held[..n], targets, out);
+    let known = Targets {
+        positions: &held[..positions.len()],
+        rotations: targets.rotations,
+        translations: targets.translations,
+        images: targets.images,
+    };
+    known.fill(out);
 }
 
 // Given positions, made T⁻¹(p - shift) and symmetrised.
@@ -60,13 +68,7 @@ pub fn symmetrize_positions(
 {
     match verdicts::verdict(t, shift, positions, targets, out.len()) {
         Ok(()) => {
-            let known = Targets {
-                sites: positions.len(),
-                rotations: targets.rotations,
-                translations: targets.translations,
-                images: targets.images,
-            };
-            transform_and_fill(t, shift, positions, &known, out);
+            transform_and_fill(t, shift, positions, targets, out);
             Ok(())
         }
         Err(refusal) => {

@@ -1,18 +1,11 @@
 -- `symmetrize_positions`: the verdict is `verdict`'s, and the list is the answer's or cleared.
-use mathlib.Core.Path.{refl}
 use lib.ListN.{length}
 use Rattle.symmetrize_positions.proofs.Accepted.{transform_facts}
 use Rattle.symmetrize_positions.proofs.symmetrize_positions.Goals as goal
-
-pub invariant_of-known : goal.invariant_of-known
-invariant_of-known c =
-    let a = c.args in
-    let g = a.targets.now in
-    let facts = transform_facts a.positions.now g.rotations.now g.translations.now g.images.now (length a.out.now) a.t a.shift c.in-Ok.ensures in
-    record { counted = facts.0; permuted = facts.1 }
 
 pub transform_and_fill-requires : goal.transform_and_fill-requires
 transform_and_fill-requires c =
     let a = c.args in
     let g = a.targets.now in
-    (refl, (transform_facts a.positions.now g.rotations.now g.translations.now g.images.now (length a.out.now) a.t a.shift c.in-Ok.ensures).2)
+    transform_facts a.positions.now g.rotations.now g.translations.now g.images.now (length a.out.now) a.t a.shift
+    c.in-Ok.ensures
