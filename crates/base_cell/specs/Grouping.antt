@@ -17,14 +17,17 @@ Below n l = (k : ℕ) → k < length l → get_or l k 0 < n
 abbrev pub Counted : ℕ → List ℕ → List ℕ → Type 0
 Counted n l table = (x : ℕ) → x < n → get_or table x 0 ≡ count (eqb x) l
 
--- k permutations of n sites, a mapping to these sites, and room for its labels and multiplicities
-pub record Groupable (n k : ℕ) (images mapping l m : List ℕ) : Type 0 where
-  pub sites : n ≤ most_sites
-  pub entries : length images ≡ k * n
-  pub within : Below n mapping
-  pub listed : length mapping ≤ most_listed
-  pub labels : length mapping ≤ length l
-  pub multiplicities : length mapping ≤ length m
+-- an image of each site under each of so many permutations, and a mapping to these sites
+pub record Groupable (x : LabelArguments) : Type 0 where
+  pub sites : x.sites ≤ most_sites
+  pub entries : length x.images ≡ x.count * x.sites
+  pub within : Below x.sites x.mapping
+  pub listed : length x.mapping ≤ most_listed
+
+-- lists of l and m entries have room for the label of each listed site and for its multiplicity
+pub record Room (listed l m : ℕ) : Type 0 where
+  pub labels : listed ≤ l
+  pub multiplicities : listed ≤ m
 
 -- the labels and the multiplicities at the front of two lists, which were l₀ and m₀
 pub record Grouped (ps : List (List ℕ)) (mapping l₀ m₀ l₁ m₁ : List ℕ) : Type 0 where

@@ -4,7 +4,8 @@ pub mod Maps
 pub mod Classes
 pub mod Trees
 pub mod Labels
-pub mod Given
 pub mod Grouping
+pub mod Given
+pub mod Tested
 pub mod Rearranged
 pub mod Labelling

@@ -1,9 +1,9 @@
 -- A union-find: each site has a parent that is not after it, and a root is its own parent. Sites of one root are
 -- joined.
-use Prim.Native.Nat.{ℕ, zero, suc, ◌+◌, ◌*◌, ◌≤◌, ◌<◌}
-use Rattle.std.specs.Prelude.{◌≡◌, refl, Bool, true, false, List, ◌⊎◌, length, set, drop, eqb}
+use Prim.Native.Nat.{ℕ, zero, suc, ◌+◌, ◌≤◌, ◌<◌}
+use Rattle.std.specs.Prelude.{◌≡◌, refl, Bool, true, false, List, ◌⊎◌, length, set, eqb}
 use Rattle.std.proofs.Math.Path.{sym}
-use Rattle.std.proofs.Common.{ap, ◌∙◌, subst, inl, inr, ⊎_elim, arith, not-suc-le-zero, le_of_suc-le-suc, eq-or-lt_of_le, add-one, below_more, eqb-true, length-set, length-take, get_or-set_same, get_or-set_other, get_or-take, get_or-drop}
+use Rattle.std.proofs.Common.{ap, ◌∙◌, subst, inl, inr, ⊎_elim, arith, not-suc-le-zero, le_of_suc-le-suc, eq-or-lt_of_le, add-one, below_more, eqb-true, length-set, get_or-set_same, get_or-set_other}
 use mathlib.Core.List.Memᴰ
 use Rattle.std.proofs.lemmas.Bool.{eqb-false}
 use Rattle.std.proofs.Math.ListN.{get_or}
@@ -205,9 +205,10 @@ module _ {n : ℕ} {par : List ℕ} (f : Forest n par) (i : ℕ) (hi : i < n) wh
 abbrev pub OnlyJoined : ℕ → List (List ℕ) → List ℕ → Type 0
 OnlyJoined n ps par = (x y : ℕ) → x < n → y < n → root par x ≡ root par y → Joined ps x y
 
--- The trees b are the trees a with the sites joined that R says, and no others.
+-- The trees b are the trees a with the sites joined that R says, which are sites of theirs, and no others.
 pub record Linked (n : ℕ) (R : ℕ → ℕ → Type 0) (a b : List ℕ) : Type 0 where
   pub forest : Forest n b
+  pub within : (x y : ℕ) → R x y → (x < n) × (y < n)
   pub keeps : (x y : ℕ) → x < n → y < n → root a x ≡ root a y → root b x ≡ root b y
   pub joins : (x y : ℕ) → x < n → y < n → R x y → root b x ≡ root b y
   pub least :
@@ -232,6 +233,7 @@ pub linked_under :
 linked_under {n} {par} f i j hi hj order =
     record {
       forest = under_forest f b s hb (root-root f i hi) (root-root f j hj) order;
+      within = λ x y p. (rw p.0 hi, rw p.1 hj);
       keeps = λ x y hx hy e. moved x hx ∙ ap (replaced b s) e ∙ sym (moved y hy);
       joins = joins;
       least =
@@ -269,6 +271,7 @@ linked_short {n} {R} {a} {b} l i s hi e =
     e
     (record {
       forest = short_forest f i hi;
+      within = l.within;
       keeps = λ x y hx hy e. same x hx ∙ l.keeps x y hx hy e ∙ sym (same y hy);
       joins = λ x y hx hy r. same x hx ∙ l.joins x y hx hy r ∙ sym (same y hy);
       least = λ ps only given x y hx hy e. l.least ps only given x y hx hy (sym (same x hx) ∙ e ∙ same y hy);
@@ -312,6 +315,7 @@ pub linked_already :
 linked_already {n} {par} f i j hi hj e =
     record {
       forest = f;
+      within = λ x y p. (rw p.0 hi, rw p.1 hj);
       keeps = λ x y hx hy e. e;
       joins = λ x y hx hy p. rw (p.0, p.1) (root_up f i hi ∙ ap (root par) e ∙ sym (root_up f j hj));
       least = λ ps only given. only;
@@ -321,6 +325,7 @@ pub linked_flip : {n i j : ℕ} {a b : List ℕ} → Linked n (Pair j i) a b →
 linked_flip l =
     record {
       forest = l.forest;
+      within = λ x y p. let (hy, hx) = l.within y x (p.1, p.0) in (hx, hy);
       keeps = l.keeps;
       joins = λ x y hx hy p. sym (l.joins y x hy hx (p.1, p.0));
       least = λ ps only given. l.least ps only (λ x y hx hy p. joined_sym (given y x hy hx (p.1, p.0)));
@@ -330,6 +335,7 @@ pub linked_none : {n : ℕ} {R : ℕ → ℕ → Type 0} {a : List ℕ} → Fore
 linked_none f empty =
     record {
       forest = f;
+      within = λ x y r. absurd (empty x y r);
       keeps = λ x y hx hy e. e;
       joins = λ x y hx hy r. absurd (empty x y r);
       least = λ ps only given. only;
@@ -342,6 +348,7 @@ pub linked_then :
 linked_then l m split left right =
     record {
       forest = m.forest;
+      within = λ x y u. ⊎_elim (l.within x y) (m.within x y) (split x y u);
       keeps = λ x y hx hy e. m.keeps x y hx hy (l.keeps x y hx hy e);
       joins = λ x y hx hy u. ⊎_elim (λ r. m.keeps x y hx hy (l.joins x y hx hy r)) (m.joins x y hx hy) (split x y u);
       least =
@@ -356,9 +363,9 @@ alone_forest n = record { size = length-up_from 0 n; down = λ i h. omega (arith
 
 -- the roots decide what the permutations join
 pub roots_decide :
-    (n : ℕ) (ps : List (List ℕ)) (par flat : List ℕ) → ((x y : ℕ) → Step ps x y → (x < n) × (y < n)) → Linked n (Step ps) (up_to n) par →
-    Flat n par flat → Decides n ps flat
-roots_decide n ps par flat within l is x y hx hy = (
+    (n : ℕ) (ps : List (List ℕ)) (par flat : List ℕ) → Linked n (Step ps) (up_to n) par → Flat n par flat →
+    Decides n ps flat
+roots_decide n ps par flat l is x y hx hy = (
   λ e. l.least ps alone (λ x y hx hy s. joined_step s) x y hx hy (sym (is x hx) ∙ e ∙ is y hy),
   λ r. is x hx ∙ same r ∙ sym (is y hy),
 )
@@ -370,8 +377,8 @@ roots_decide n ps par flat within l is x y hx hy = (
 
     same : {x y : ℕ} → Joined ps x y → root par x ≡ root par y
     same none = refl
-    same (forth {i} {j} s r) = let (hi, hj) = within i j s in l.joins i j hi hj s ∙ same r
-    same (back {i} {j} s r) = let (hj, hi) = within j i s in sym (l.joins j i hj hi s) ∙ same r
+    same (forth {i} {j} s r) = let (hi, hj) = l.within i j s in l.joins i j hi hj s ∙ same r
+    same (back {i} {j} s r) = let (hj, hi) = l.within j i s in sym (l.joins j i hj hi s) ∙ same r
 
 -- ---- the permutations of a list, one behind the other
 
@@ -410,15 +417,6 @@ module _ (n : ℕ) (images : List ℕ) where
 
       left : (x y : ℕ) → Step (permutations_of n k images) x y → Step (permutations_of n (k + 1) images) x y
       left x y s = let (o, h, a) = from_step k x y s in step_at (k + 1) o x y (omega arith) a
-
-  -- m sites are room for n, and every image is one of them
-  pub steps_within :
-      (m k : ℕ) → n ≤ m → ((i : ℕ) → get_or images i 0 < m) → (x y : ℕ) → Step (permutations_of n k images) x y → (x < m) × (y < m)
-  steps_within m k room byte x y s =
-      let (o, h, (hx, e)) = from_step k x y s in
-      let hn : x < n = omega (arith, hx, length-take n (drop (o * n) images)) in
-      let at : y ≡ get_or images (o * n + x) 0 = sym e ∙ get_or-take n (drop (o * n) images) x 0 hn ∙ get_or-drop (o * n) images x 0 in
-      (omega arith, omega (arith, at, byte (o * n + x)))
 
 -- the site k and its image, after those before it
 pub linked_site :

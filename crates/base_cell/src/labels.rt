@@ -1,10 +1,11 @@
 // The labels of the listed sites and how many sites have each, in three passes over the list.
 ghost use Rattle.std.specs.Prelude.{◌≤◌, ◌≡◌, ◌++◌, length, drop, replicate};
-ghost use Rattle.definitions.specs.Lent.{permutations_of};
-ghost use Rattle.definitions.specs.Limits.{most_sites, most_listed};
+ghost use Rattle.definitions.specs.Limits.{most_listed};
 ghost use Rattle.definitions.specs.Orbit.{multiplicities as multiplicities_of};
+ghost use Rattle.definitions.specs.SiteCalls.{permutations_in};
+ghost use Rattle.base_cell.specs.Given.{arguments_of};
 ghost use Rattle.base_cell.specs.Labels.{labels_by};
-ghost use Rattle.base_cell.specs.Grouping.{Below, Counted, Groupable, Grouped};
+ghost use Rattle.base_cell.specs.Grouping.{Below, Counted, Groupable, Room, Grouped};
 
 use crate::union_find::{Sites, orbits_from_permutations};
 use crate::verdicts::Labelling;
@@ -13,22 +14,11 @@ use definitions::limits::{MOST_LISTED, MOST_SITES};
 // How many listed sites have each label.
 type Counts = [u16; MOST_LISTED];
 
-// moyo's `orbits_in_cell`: the label is the first listed site whose primitive site has the same root.
-fn put_labels(roots: &Sites, mapping: &[u16], labels: &mut [u16])
-    requires { (Below most_sites mapping.now) × (length mapping.now ≤ most_listed)
-        × (length mapping.now ≤ length labels.old) }
-    ensures { labels.new
-        ≡ labels_by roots.now mapping.now
-        ++ drop (length mapping.now) labels.old }
-{
-    let mut first: [Option<u16>; MOST_SITES] = [None; MOST_SITES];
-    for (j, site) in mapping.iter().enumerate() {
-        let i = usize::from(*site);
-        let root = usize::from(roots[i]);
-        let label = first[root].unwrap_or(j as u16);
-        first[root] = Some(label);
-        labels[j] = label;
-    }
+// What was given, past the verdict or the step's test.
+#[derive(Clone, Copy)]
+pub(crate) struct Grouping<'i, 'm> {
+    pub(crate) labelling: Labelling<'i, 'm>,
+    ghost groupable: { Groupable (arguments_of labelling) },
 }
 
 // The table is the caller's: one that is returned is copied twice.
@@ -53,17 +43,36 @@ fn put_multiplicities(labels: &[u16], counts: &Counts, out: &mut [u16])
     }
 }
 
-// moyo's `group_sites_by_orbit`, for any number of permutations.
-pub(crate) fn group_sites_by_orbit(x: &Labelling, labels: &mut [u16], multiplicities: &mut [u16])
-    requires { Groupable x.now.sites x.now.count x.now.images.now x.now.mapping.now labels.old multiplicities.old }
-    ensures { Grouped (permutations_of x.now.sites x.now.count x.now.images.now) x.now.mapping.now
-        labels.old multiplicities.old
-        labels.new multiplicities.new }
-{
-    let roots = orbits_from_permutations(x.sites, x.count, x.images);
-    put_labels(&roots, x.mapping, labels);
-    let written = &labels[..x.mapping.len()];
-    let mut counts = [0u16; MOST_LISTED];
-    count_sites(written, &mut counts);
-    put_multiplicities(written, &counts, multiplicities);
+impl Grouping<'_, '_> {
+    // moyo's `orbits_in_cell`: the label is the first listed site whose primitive site has the same root.
+    fn put_labels(&self, roots: &Sites, labels: &mut [u16])
+        requires { length self.now.labelling.mapping.now ≤ length labels.old }
+        ensures { labels.new
+            ≡ labels_by roots.now self.now.labelling.mapping.now
+            ++ drop (length self.now.labelling.mapping.now) labels.old }
+    {
+        let mut first: [Option<u16>; MOST_SITES] = [None; MOST_SITES];
+        for (j, site) in self.labelling.mapping.iter().enumerate() {
+            let i = usize::from(*site);
+            let root = usize::from(roots[i]);
+            let label = first[root].unwrap_or(j as u16);
+            first[root] = Some(label);
+            labels[j] = label;
+        }
+    }
+
+    // moyo's `group_sites_by_orbit`, for any number of permutations.
+    pub(crate) fn group_sites_by_orbit(&self, labels: &mut [u16], multiplicities: &mut [u16])
+        requires { Room (length self.now.labelling.mapping.now) (length labels.old) (length multiplicities.old) }
+        ensures { Grouped (permutations_in (arguments_of self.now.labelling)) self.now.labelling.mapping.now
+            labels.old multiplicities.old
+            labels.new multiplicities.new }
+    {
+        let roots = orbits_from_permutations(self);
+        self.put_labels(&roots, labels);
+        let written = &labels[..self.labelling.mapping.len()];
+        let mut counts = [0u16; MOST_LISTED];
+        count_sites(written, &mut counts);
+        put_multiplicities(written, &counts, multiplicities);
+    }
 }

@@ -7,12 +7,12 @@ mod labels;
 mod union_find;
 pub mod verdicts;
 
-ghost use Rattle.std.specs.Prelude.{true};
+ghost use Rattle.std.specs.Prelude.{true, length};
 ghost use Rattle.definitions.specs.SiteCalls.{HoldsLabels, LabelPromise, nothing_labelled};
 ghost use Rattle.base_cell.specs.Given.{arguments_of, orbit_cells, SameRooms, SameOrbits};
-ghost use Rattle.base_cell.specs.Grouping.{Groupable, LabelsLeft, OrbitsLabelled};
+ghost use Rattle.base_cell.specs.Grouping.{Room, LabelsLeft, OrbitsLabelled};
 
-use crate::labels::group_sites_by_orbit;
+use crate::labels::Grouping;
 use crate::verdicts::Labelling;
 use definitions::Verdict;
 use lent::clear;
@@ -26,16 +26,17 @@ pub struct Orbits<'a> {
 
 impl<'a> Orbits<'a> {
     // The answer and zero behind it.
-    fn put(&mut self, x: &Labelling)
-        requires { Groupable x.now.sites x.now.count x.now.images.now x.now.mapping.now
-            self.old.labels.now self.old.multiplicities.now }
-        ensures left { LabelsLeft (arguments_of x.now) (orbit_cells self.old) (orbit_cells self.new) true }
+    fn put(&mut self, x: &Grouping)
+        requires { Room (length x.now.labelling.mapping.now)
+            (length self.old.labels.now) (length self.old.multiplicities.now) }
+        ensures left { LabelsLeft (arguments_of x.now.labelling) (orbit_cells self.old) (orbit_cells self.new) true }
         ensures rooms { SameRooms (orbit_cells self.old) (orbit_cells self.new) }
         ensures same_lists { SameOrbits self.old self.new }
     {
-        group_sites_by_orbit(x, self.labels, self.multiplicities);
-        clear(self.labels, x.mapping.len());
-        clear(self.multiplicities, x.mapping.len());
+        x.group_sites_by_orbit(self.labels, self.multiplicities);
+        let listed = x.labelling.mapping.len();
+        clear(self.labels, listed);
+        clear(self.multiplicities, listed);
     }
 
     // Zero.
@@ -55,12 +56,16 @@ pub fn label_sites(x: &Labelling, orbits: &mut Orbits) -> Verdict
     ensures rooms { SameRooms (orbit_cells orbits.old) (orbit_cells orbits.new) }
     ensures same_lists { SameOrbits orbits.old orbits.new }
 {
-    let v = x.verdict(orbits.labels.len(), orbits.multiplicities.len());
-    match v {
-        Ok(()) => orbits.put(x),
-        Err(_) => orbits.clear(),
+    match x.accepted(orbits.labels.len(), orbits.multiplicities.len()) {
+        Ok(grouping) => {
+            orbits.put(&grouping);
+            Ok(())
+        }
+        Err(refusal) => {
+            orbits.clear();
+            Err(refusal)
+        }
     }
-    v
 }
 
 // The step of it that labels, whatever the images are: where they are known to be permutations, none is tested again.
@@ -69,9 +74,8 @@ pub fn label_orbits(x: &Labelling, orbits: &mut Orbits)
     ensures rooms { SameRooms (orbit_cells orbits.old) (orbit_cells orbits.new) }
     ensures same_lists { SameOrbits orbits.old orbits.new }
 {
-    if x.can_group(orbits.labels.len(), orbits.multiplicities.len()) {
-        orbits.put(x);
-    } else {
-        orbits.clear();
+    match x.tested(orbits.labels.len(), orbits.multiplicities.len()) {
+        Some(grouping) => orbits.put(&grouping),
+        None => orbits.clear(),
     }
 }

@@ -1,12 +1,14 @@
 // A union-find over the primitive sites: each has a parent that is not after it, and a root is its own.
-ghost use Rattle.std.specs.Prelude.{◌*◌, ◌≤◌, ◌<◌, ◌≡◌, length};
+ghost use Rattle.std.specs.Prelude.{◌≤◌, ◌<◌, ◌≡◌, length};
 ghost use Rattle.definitions.specs.Limits.{most_sites};
 ghost use Rattle.definitions.specs.Lists.{up_to};
-ghost use Rattle.definitions.specs.Lent.{permutations_of};
 ghost use Rattle.definitions.specs.Orbit.{Step};
+ghost use Rattle.definitions.specs.SiteCalls.{permutations_in};
+ghost use Rattle.base_cell.specs.Given.{arguments_of};
 ghost use Rattle.base_cell.specs.Classes.{Decides};
 ghost use Rattle.base_cell.specs.Trees.{Forest, root, Flat, Linked, Pair, Along};
 
+use crate::labels::Grouping;
 use definitions::limits::MOST_SITES;
 
 // The root of each site.
@@ -80,14 +82,15 @@ impl SiteForest {
         }
     }
 
-    // Each site with its image under each of k permutations of n sites.
-    fn join_all(&mut self, n: usize, k: usize, images: &[u8])
-        requires { (n ≤ most_sites) × (length images.now ≡ k * n) }
-        ensures { Linked most_sites (Step (permutations_of n k images.now)) self.old.parent self.new.parent }
+    // Each site with its image under each of the permutations.
+    fn join_all(&mut self, x: &Grouping)
+        ensures { Linked most_sites (Step (permutations_in (arguments_of x.now.labelling)))
+            self.old.parent self.new.parent }
     {
-        for o in 0..k {
+        let n = x.labelling.sites;
+        for o in 0..x.labelling.count {
             let at = o * n;
-            self.join_images(&images[at..at + n]);
+            self.join_images(&x.labelling.images[at..at + n]);
         }
     }
 
@@ -104,11 +107,10 @@ impl SiteForest {
 }
 
 // moyo's `orbits_from_permutations`: two sites have one root just if the permutations join them.
-pub(crate) fn orbits_from_permutations(n: usize, k: usize, images: &[u8]) -> Sites
-    requires { (n ≤ most_sites) × (length images.now ≡ k * n) }
-    ensures { Decides most_sites (permutations_of n k images.now) result }
+pub(crate) fn orbits_from_permutations(x: &Grouping) -> Sites
+    ensures { Decides most_sites (permutations_in (arguments_of x.now.labelling)) result }
 {
     let mut forest = SiteForest::each_alone();
-    forest.join_all(n, k, images);
+    forest.join_all(x);
     forest.flatten()
 }

@@ -9,7 +9,9 @@ ghost use Rattle.definitions.specs.Lent.{bad_permutation_counts, bad_images};
 ghost use Rattle.definitions.specs.SiteCalls.{bad_mapping, label_conditions};
 ghost use Rattle.base_cell.specs.Given.{arguments_of};
 ghost use Rattle.base_cell.specs.Grouping.{groupable};
+ghost use Rattle.base_cell.specs.Tested.{Accepted, Tested};
 
+use crate::labels::Grouping;
 use base_permutation::all_permutations;
 use definitions::limits::{MOST_LISTED, MOST_OPERATIONS, MOST_SITES};
 use definitions::{Refusal, Verdict};
@@ -30,7 +32,7 @@ fn each_below(n: usize, mapping: &[u16]) -> bool
     mapping.iter().all(|site| usize::from(*site) < n)
 }
 
-impl Labelling<'_, '_> {
+impl<'i, 'm> Labelling<'i, 'm> {
     // 2: the product is small by the time that it is made.
     pub fn bad_counts(&self) -> bool
         ensures { result ≡ bad_permutation_counts self.now.sites self.now.count self.now.images.now }
@@ -81,7 +83,7 @@ impl Labelling<'_, '_> {
     }
 
     // 2, 5, 9, 10
-    pub(crate) fn verdict(&self, labels: usize, multiplicities: usize) -> Verdict
+    fn verdict(&self, labels: usize, multiplicities: usize) -> Verdict
         ensures { Checked (label_conditions (arguments_of self.now) (labels ∷ multiplicities ∷ [])) result }
     {
         if self.bad_counts() {
@@ -100,7 +102,7 @@ impl Labelling<'_, '_> {
     }
 
     // The step's test: as `verdict`, without the costly one, that the images are permutations.
-    pub(crate) fn can_group(&self, labels: usize, multiplicities: usize) -> bool
+    fn can_group(&self, labels: usize, multiplicities: usize) -> bool
         ensures { result ≡ groupable (arguments_of self.now) (labels ∷ multiplicities ∷ []) }
     {
         if self.bad_counts() {
@@ -113,5 +115,27 @@ impl Labelling<'_, '_> {
             return false;
         }
         !self.lacks_room(labels, multiplicities)
+    }
+
+    // What the call groups, or its refusal.
+    pub(crate) fn accepted(
+        &self,
+        labels: usize,
+        multiplicities: usize,
+    ) -> Result<Grouping<'i, 'm>, Refusal>
+        ensures { Accepted self.now labels multiplicities result }
+    {
+        self.verdict(labels, multiplicities)?;
+        Ok(Grouping { labelling: *self })
+    }
+
+    // What the step groups.
+    pub(crate) fn tested(&self, labels: usize, multiplicities: usize) -> Option<Grouping<'i, 'm>>
+        ensures { Tested self.now labels multiplicities result }
+    {
+        if !self.can_group(labels, multiplicities) {
+            return None;
+        }
+        Some(Grouping { labelling: *self })
     }
 }

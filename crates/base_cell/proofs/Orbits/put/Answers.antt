@@ -8,4 +8,5 @@ pub returns-clause-left : goal.returns-clause-left
 returns-clause-left c =
     let grouped = c.group_sites_by_orbit in
     let z : LabelCells = record { labels = c.clear.new.out; multiplicities = c.clear-2.new.out } in
-    left_grouped (arguments_of c.args.x.now) (orbit_cells c.args.self.now) z grouped.new.labels grouped.new.multiplicities c.requires grouped.ensures c.clear.ensures c.clear-2.ensures
+    left_grouped (arguments_of c.args.x.now.labelling) (orbit_cells c.args.self.now) z
+    grouped.new.labels grouped.new.multiplicities c.requires grouped.ensures c.clear.ensures c.clear-2.ensures
