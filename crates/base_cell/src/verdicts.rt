@@ -15,6 +15,7 @@ use crate::labels::Grouping;
 use base_permutation::all_permutations;
 use definitions::limits::{MOST_LISTED, MOST_OPERATIONS, MOST_SITES};
 use definitions::{Refusal, Verdict};
+use lent::lacks_room;
 
 // What the call and its step are given: permutations of so many sites, and of each listed site its primitive one.
 #[derive(Clone, Copy)]
@@ -78,8 +79,7 @@ impl<'i, 'm> Labelling<'i, 'm> {
     fn lacks_room(&self, labels: usize, multiplicities: usize) -> bool
         ensures { result ≡ any (shorter_than (length self.now.mapping.now)) (labels ∷ multiplicities ∷ []) }
     {
-        let listed = self.mapping.len();
-        labels < listed || multiplicities < listed
+        lacks_room(self.mapping.len(), [labels, multiplicities])
     }
 
     // 2, 5, 9, 10
