@@ -24,27 +24,30 @@ use Rattle.data_wyckoff.proofs.Listed.{Found, neither, six, eight, found}
 
 -- ---- the verdict
 
--- five lists as long as one lack room just if it does
-same_room : (n m : ℕ) → any (shorter_than n) (m ∷ m ∷ m ∷ m ∷ m ∷ []) ≡ shorter_than n m
-same_room n m =
-    sym (list_any-is_any (shorter_than n) (m ∷ m ∷ m ∷ m ∷ m ∷ [])) ∙ by (shorter_than n m)
-  where
-    by : (b : Bool) → (b || (b || (b || (b || (b || false))))) ≡ b
-    by true = refl
-    by false = refl
+-- the five lists are as long as the one
+module _ (t : ℕ → Bool) where
+  five_alike : (m : ℕ) → any t (m ∷ m ∷ m ∷ m ∷ m ∷ []) ≡ t m
+  five_alike m = sym (list_any-is_any t (m ∷ m ∷ m ∷ m ∷ m ∷ [])) ∙ by (t m)
+    where
+      by : (b : Bool) → (b || (b || (b || (b || (b || false))))) ≡ b
+      by true = refl
+      by false = refl
+
+  pub rooms_alike : (ss : List code.Space) → any t (space_rooms (lists ss)) ≡ t (length ss)
+  rooms_alike ss =
+      ap (any t)
+      (λ i.
+      length-map ss (λ s. s.matrix) i
+      ∷ length-map ss (λ s. s.shift) i
+      ∷ length-map ss (λ s. s.d) i
+      ∷ length-map ss (λ s. s.l) i
+      ∷ length-map ss (λ s. s.r) i
+      ∷ [])
+      ∙ five_alike (length ss)
 
 module _ (texts : List (List ℕ)) (e : List code.Space) where
   room_is : any (shorter_than (length texts)) (space_rooms (lists e)) ≡ shorter_than (length texts) (length e)
-  room_is =
-      ap (any (shorter_than (length texts)))
-      (λ i.
-      length-map e (λ s. s.matrix) i
-      ∷ length-map e (λ s. s.shift) i
-      ∷ length-map e (λ s. s.d) i
-      ∷ length-map e (λ s. s.l) i
-      ∷ length-map e (λ s. s.r) i
-      ∷ [])
-      ∙ same_room (length texts) (length e)
+  room_is = rooms_alike (shorter_than (length texts)) e
 
   judged-many : too_many_candidates (length texts) ≡ true → Checked (prepare_all_conditions texts (space_rooms (lists e))) (Err Counts)
   unfolding verdict_of found_at_lem Passed HoldsAt

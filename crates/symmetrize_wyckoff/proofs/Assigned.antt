@@ -132,17 +132,6 @@ module _ (x : AssignArguments) (ready : Assignable x) where
   pub labels_below : Below most_listed x.labels
   labels_below k h = omega (arith, ready.below k h, ready.listed)
 
-  pub fewest : (length x.spaces.matrices ≤ most_candidates) × (length x.spaces.shifts ≡ length x.spaces.matrices)
-      × (length x.spaces.ds ≡ length x.spaces.matrices) × (length x.spaces.ls ≡ length x.spaces.matrices)
-      × (length x.spaces.rs ≡ length x.spaces.matrices)
-  fewest = (
-    omega (arith, ready.few, ready.matrices),
-    ready.shifts ∙ sym ready.matrices,
-    ready.ds ∙ sym ready.matrices,
-    ready.ls ∙ sym ready.matrices,
-    ready.rs ∙ sym ready.matrices,
-  )
-
   module _ (spaces : List RealSpace) where
     abbrev tables : RealCandidates
     tables = record { multiplicities = x.candidates; letters = x.letters; spaces = spaces }
@@ -150,14 +139,14 @@ module _ (x : AssignArguments) (ready : Assignable x) where
     pub together : length spaces ≡ most_candidates → Together tables
     together e = record { a_letter = ready.letters; a_space = omega (arith, ready.few) }
 
-    module _ (put : PutSpaces x.spaces (length x.spaces.matrices) spaces) where
+    module _ (put : PutSpaces x.spaces (length x.candidates) spaces) where
       is_prepared : IsPrepared x tables
       is_prepared =
           record {
             multiplicities = refl;
             letters = refl;
-            space = λ k h. (put k (omega (arith, ready.matrices))).0;
-            counted = λ k h. (put k (omega (arith, ready.matrices))).1;
+            space = λ k h. (put k h).0;
+            counted = λ k h. (put k h).1;
           }
 
       -- what the walk notes by the tables is the letters of the orbits

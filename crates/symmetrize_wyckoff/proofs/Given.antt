@@ -1,6 +1,6 @@
 -- The tests of the guard, as the code joins them and as the definition does; and what they say where they hold.
 use Prim.Native.Nat.{ℕ, ◌≤◌}
-use mathlib.Core.Path.{◌≡◌, refl, sym}
+use mathlib.Core.Path.{◌≡◌, refl, sym, ◌∙◌}
 use mathlib.Core.Bool.{Bool, true, false, not, ◌&&◌, ◌||◌}
 use mathlib.Core.List.{List, [], ◌∷◌}
 use borrow.Author.Tests.{ltb-true, ltb-false, le-leb, lt-leb, eqb-true, not-false}
@@ -10,7 +10,11 @@ use Rattle.definitions.specs.Limits.{too_many_listed, too_many_candidates, short
 use Rattle.definitions.specs.Lent.{unlike}
 use Rattle.definitions.specs.Lists.{all, any}
 use Rattle.definitions.specs.SiteCalls.{AssignArguments, space_rooms, assignable}
-use Rattle.laws.specs.Lists.{all_at, none_head, none_tail}
+use Rattle.laws.specs.Lists.{all_at, none_head, none_tail, list_any-is_any}
+use Rattle.std.specs.List.{list_any}
+use Rattle.data_wyckoff.specs.declared.space.Space as code
+use Rattle.data_wyckoff.specs.Spaces.{lists}
+use Rattle.data_wyckoff.proofs.Promise.{rooms_alike}
 use Rattle.laws.specs.Tests.{so, both_pass}
 use Rattle.symmetrize_wyckoff.specs.Prepared.{Assignable}
 
@@ -27,10 +31,31 @@ pub six-same :
     (a && b && c && d && e && f) ≡ (a' && b' && c' && d' && e' && f')
 six-same p q r s t u = λ i. p i && q i && r i && s i && t i && u i
 
+alone : (b : Bool) → (b || false) ≡ b
+alone true = refl
+alone false = refl
+
 -- the first of five apart from the others
 pub five_or : (a b c d e : Bool) → (a || b || c || d || e) ≡ (a || (b || c || d || e))
 five_or true b c d e = refl
 five_or false b c d e = refl
+
+-- the spaces' list is not as long as others just if one of its fields' is not
+pub prepared_alike :
+    (m a : ℕ) (ss : List code.Space) →
+    list_any (unlike m) (a ∷ length ss ∷ []) ≡ any (unlike m) (a ∷ space_rooms (lists ss))
+unfolding any
+prepared_alike m a ss =
+    list_any-is_any (unlike m) (a ∷ length ss ∷ []) ∙ by (unlike m a)
+  where
+    rest : any (unlike m) (length ss ∷ []) ≡ any (unlike m) (space_rooms (lists ss))
+    rest = sym (list_any-is_any (unlike m) (length ss ∷ [])) ∙ alone (unlike m (length ss)) ∙ sym (rooms_alike (unlike m) ss)
+
+    by :
+        (b : Bool) → elim b as (λ (x : Bool). Bool) [ true ↦ true | false ↦ any (unlike m) (length ss ∷ []) ]
+        ≡ elim b as (λ (x : Bool). Bool) [ true ↦ true | false ↦ any (unlike m) (space_rooms (lists ss)) ]
+    by true = refl
+    by false = rest
 
 -- ---- what it says
 

@@ -37,13 +37,17 @@ use Rattle.laws.specs.Verdicts.{HoldsAt, Passed, pass, found_at_lem, found_none,
 use Rattle.laws.specs.Verdicts.{number_one, promise_accepted, promise_refused}
 use Rattle.base_cell.specs.Labels.{labels_listed}
 use Rattle.base_cell.proofs.Tables.{length-multiplicities}
+use Rattle.std.proofs.lemmas.List.{take-map}
+use Rattle.data_wyckoff.specs.declared.space.Space as code
+use Rattle.data_wyckoff.specs.Spaces.{lists}
+use Rattle.data_wyckoff.proofs.Promise.{rooms_alike}
 use Rattle.symmetrize_wyckoff.specs.Lettered.{unfit_by}
 use Rattle.symmetrize_wyckoff.specs.Unfit.{lettered_or_unfit}
 use Rattle.symmetrize_wyckoff.specs.Prepared.{Assignable}
 use Rattle.symmetrize_wyckoff.specs.Lettering.{AssignJudged, lacks_room, lacks_letter, has_all, Placed}
 use Rattle.symmetrize_wyckoff.specs.Lettering.{assign_with, assign_by, Labellable, LabelledJudged}
 use Rattle.symmetrize_wyckoff.specs.Lettering.{over, short, without, with_all}
-use Rattle.symmetrize_wyckoff.specs.Lettering.{LetterJudged, first_spaces, cells_of_spaces, placed_by, SpacesListed}
+use Rattle.symmetrize_wyckoff.specs.Lettering.{LetterJudged, cells_of_spaces, placed_by}
 use Rattle.symmetrize_wyckoff.proofs.Given.{six-same}
 use Rattle.symmetrize_wyckoff.proofs.Designs.{length-spaces, found_design, sites_are}
 
@@ -434,14 +438,9 @@ module _ (x : LetterArguments) (entry exit : LetterCells) where
     few_candidates = ltb-false 64 t few_texts
 
     -- room for the spaces of so many
-    pub spaces_room : any (shorter_than t) (64 ∷ 64 ∷ 64 ∷ 64 ∷ 64 ∷ []) ≡ false
-    unfolding any
-    spaces_room =
-        let r = le-ltb 64 t few_candidates in
-        any_none (shorter_than t) 64 (64 ∷ 64 ∷ 64 ∷ 64 ∷ []) r
-        (any_none (shorter_than t) 64 (64 ∷ 64 ∷ 64 ∷ []) r
-        (any_none (shorter_than t) 64 (64 ∷ 64 ∷ []) r
-        (any_none (shorter_than t) 64 (64 ∷ []) r (any_none (shorter_than t) 64 [] r refl))))
+    pub spaces_room : (e : List code.Space) → length e ≡ 64 → any (shorter_than t) (space_rooms (lists e)) ≡ false
+    spaces_room e h =
+        rooms_alike (shorter_than t) e ∙ le-ltb (length e) t (subst (λ n. t ≤ n) (sym h) few_candidates)
 
     alike : (a b : ℕ) → unlike a b ≡ false → a ≡ b
     alike a b u = eqb-true a b (not-false _ u)
@@ -459,11 +458,16 @@ module _ (x : LetterArguments) (entry exit : LetterCells) where
         (alike (length x.labelling.mapping) (length x.positions)
         (neither_right bad₃ (unlike (length x.labelling.mapping) (length x.positions)) not_two))
 
-    module _ (e z : SpaceCells) where
+    module _ (es zs : List code.Space) where
+      abbrev e : SpaceCells
+      e = lists es
+
+      abbrev z : SpaceCells
+      z = lists zs
+
       -- a candidate is refused
       pub prepared_out :
-          any (shorter_than t) (space_rooms e) ≡ false → (k : Refusal) → PrepareAllPromise x.texts e z (Err k) →
-          LetterJudged x entry exit (Err k)
+          length es ≡ 64 → (k : Refusal) → PrepareAllPromise x.texts e z (Err k) → LetterJudged x entry exit (Err k)
       unfolding verdict_of found_at_lem Passed HoldsAt
       prepared_out enough k promise =
           ⊎_elim
@@ -471,7 +475,7 @@ module _ (x : LetterArguments) (entry exit : LetterCells) where
           (refuse conditions₃ 3 given a.1 (Err Coordinates) refl))
           (λ a. subst (λ n. Checked conditions₃ (Err n)) a.0
           (refuse conditions₃ 4 (pass conditions₃ 3 given a.1) a.2 (Err Diagonalisation) refl))
-          (six_or_eight x.texts e z k (not_so few_texts) (not_so enough)
+          (six_or_eight x.texts e z k (not_so few_texts) (not_so (spaces_room es enough))
           (prepared_refused x.texts e z k promise))
 
       module _ (promise : PrepareAllPromise x.texts e z (Ok tt)) where
@@ -489,20 +493,21 @@ module _ (x : LetterArguments) (entry exit : LetterCells) where
         count : length ss ≡ t
         count = length-spaces x.texts ss are
 
-        -- the front of each list is the spaces
-        spaces_are : first_spaces t z ≡ cells_of_spaces ss
+        -- the lists of the first of them
+        first_are :
+            {A : Type 0} (f : code.Space → A) (v : A) (g : Space → A) (room : ℕ) → map f zs ≡ padded v (map g ss) room →
+            map f (take t zs) ≡ map g ss
+        first_are f v g room h =
+            sym (take-map f t zs) ∙ front v (map g ss) (map f zs) room t h (length-map ss g ∙ count)
+
+        spaces_are : lists (take t zs) ≡ cells_of_spaces ss
         spaces_are =
             let h = prepared.1.2 in
-            let m = front zero_matrix (map (λ (s : Space). s.matrix) ss) z.matrices (length e.matrices) t
-            h.matrices (length-map ss (λ s. s.matrix) ∙ count) in
-            let q = front zero_cells (map (λ (s : Space). cells_of s.shift) ss) z.shifts (length e.shifts) t
-            h.shifts (length-map ss (λ s. cells_of s.shift) ∙ count) in
-            let d = front zero_matrix (map (λ (s : Space). s.snf.d) ss) z.ds (length e.ds) t h.ds
-            (length-map ss (λ s. s.snf.d) ∙ count) in
-            let l = front zero_matrix (map (λ (s : Space). s.snf.l) ss) z.ls (length e.ls) t h.ls
-            (length-map ss (λ s. s.snf.l) ∙ count) in
-            let r = front zero_matrix (map (λ (s : Space). s.snf.r) ss) z.rs (length e.rs) t h.rs
-            (length-map ss (λ s. s.snf.r) ∙ count) in
+            let m = first_are (λ s. s.matrix) zero_matrix (λ (s : Space). s.matrix) (length e.matrices) h.matrices in
+            let q = first_are (λ s. s.shift) zero_cells (λ (s : Space). cells_of s.shift) (length e.shifts) h.shifts in
+            let d = first_are (λ s. s.d) zero_matrix (λ (s : Space). s.snf.d) (length e.ds) h.ds in
+            let l = first_are (λ s. s.l) zero_matrix (λ (s : Space). s.snf.l) (length e.ls) h.ls in
+            let r = first_are (λ s. s.r) zero_matrix (λ (s : Space). s.snf.r) (length e.rs) h.rs in
             (λ i. record { matrices = m i; shifts = q i; ds = d i; ls = l i; rs = r i })
 
         labellable_spaces : Labellable x.labelling (placed_by x (cells_of_spaces ss))
@@ -522,30 +527,8 @@ module _ (x : LetterArguments) (entry exit : LetterCells) where
               rs = length-map ss (λ s. s.snf.r) ∙ count ∙ sym same-multiplicities;
             }
 
-        labellable : Labellable x.labelling (placed_by x (first_spaces t z))
+        pub labellable : Labellable x.labelling (placed_by x (lists (take t zs)))
         labellable = subst (λ s. Labellable x.labelling (placed_by x s)) (sym spaces_are) labellable_spaces
-
-        pub listed_spaces : SpacesListed x z
-        listed_spaces =
-            let h = prepared.1.2 in
-            record {
-              matrices =
-                  behind zero_matrix (map (λ (s : Space). s.matrix) ss) z.matrices (length e.matrices) t h.matrices
-                  (length-map ss (λ s. s.matrix) ∙ count);
-              shifts =
-                  behind zero_cells (map (λ (s : Space). cells_of s.shift) ss) z.shifts (length e.shifts) t h.shifts
-                  (length-map ss (λ s. cells_of s.shift) ∙ count);
-              ds =
-                  behind zero_matrix (map (λ (s : Space). s.snf.d) ss) z.ds (length e.ds) t h.ds
-                  (length-map ss (λ s. s.snf.d) ∙ count);
-              ls =
-                  behind zero_matrix (map (λ (s : Space). s.snf.l) ss) z.ls (length e.ls) t h.ls
-                  (length-map ss (λ s. s.snf.l) ∙ count);
-              rs =
-                  behind zero_matrix (map (λ (s : Space). s.snf.r) ss) z.rs (length e.rs) t h.rs
-                  (length-map ss (λ s. s.snf.r) ∙ count);
-              labellable = labellable;
-            }
 
         passed : Passed conditions₃ 5
         unfolding numbered FailAll HoldsAt
@@ -593,7 +576,7 @@ module _ (x : LetterArguments) (entry exit : LetterCells) where
         )
 
         pub prepared_in :
-            (w : Verdict) → LabelledJudged x.labelling (placed_by x (first_spaces t z)) entry exit w →
+            (w : Verdict) → LabelledJudged x.labelling (placed_by x (lists (take t zs))) entry exit w →
             LetterJudged x entry exit w
         prepared_in w j =
             by_labels w (subst (λ s. LabelledJudged x.labelling (placed_by x s) entry exit w) spaces_are j)

@@ -2,6 +2,7 @@
 use Rattle.std.specs.Prelude.{ℕ, List}
 use Rattle.definitions.specs.SiteCalls.{LabelCells, LetterArguments, LetterCells, SpaceCells}
 use Rattle.base_cell.specs.Given.{arguments_of}
+use Rattle.data_wyckoff.specs.Spaces.{lists}
 use Rattle.symmetrize_wyckoff.specs.declared.find.Candidates.{Candidates}
 use Rattle.symmetrize_wyckoff.specs.declared.arguments.Lettering.{Lettering}
 use Rattle.symmetrize_wyckoff.specs.declared.arguments.Placed.{Placed}
@@ -12,7 +13,7 @@ abbrev pub candidates_of : Candidates → RealCandidates
 candidates_of x = record { multiplicities = x.multiplicities.now; letters = x.letters.now; spaces = x.spaces.now }
 
 abbrev pub spaces_of : Placed → SpaceCells
-spaces_of x = record { matrices = x.matrices.now; shifts = x.shifts.now; ds = x.ds.now; ls = x.ls.now; rs = x.rs.now }
+spaces_of x = lists x.spaces.now
 
 abbrev pub placed_of : Placed → PlacedCells
 placed_of x =

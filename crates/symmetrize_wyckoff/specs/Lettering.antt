@@ -1,6 +1,6 @@
 -- What the parts of the letter call promise: the tests of what is given, the walk over labelled sites, the labels with
 -- their letters, and the verdict of all.
-use Rattle.std.specs.Prelude.{ℕ, Bool, ◌≤◌, ◌≡◌, true, false, ◌||◌, List, map, Float, length, take}
+use Rattle.std.specs.Prelude.{ℕ, Bool, ◌≤◌, ◌≡◌, true, false, ◌||◌, List, map, Float, length}
 use Rattle.std.specs.Prelude.{Err, Ok}
 use Rattle.definitions.specs.declared.Refusal.TheVariants.{ListedSites, Buffer, OrbitFit}
 use Rattle.definitions.specs.Lent.{cells_of, unlike, bad_permutation_counts, bad_images}
@@ -112,17 +112,6 @@ LetterJudged x entry exit (Ok u) =
     × ((a : LetterCells) × IsLettered x a × HoldsLetters entry exit a)
 LetterJudged x entry exit (Err k) = Checked (letter_conditions x (letter_rooms entry)) (Err k)
 
--- the first n entries of each list of spaces
-abbrev pub first_spaces : ℕ → SpaceCells → SpaceCells
-first_spaces n e =
-    record {
-      matrices = take n e.matrices;
-      shifts = take n e.shifts;
-      ds = take n e.ds;
-      ls = take n e.ls;
-      rs = take n e.rs;
-    }
-
 -- the five lists of spaces
 abbrev pub cells_of_spaces : List Space → SpaceCells
 cells_of_spaces ss =
@@ -144,12 +133,3 @@ placed_by x spaces =
       letters = x.letters;
       spaces = spaces;
     }
-
--- past 2 and 5, with lists that belong together, and lists of spaces that are no shorter than those of candidates
-pub record SpacesListed (x : LetterArguments) (e : SpaceCells) : Type 0 where
-  pub matrices : length x.texts ≤ length e.matrices
-  pub shifts : length x.texts ≤ length e.shifts
-  pub ds : length x.texts ≤ length e.ds
-  pub ls : length x.texts ≤ length e.ls
-  pub rs : length x.texts ≤ length e.rs
-  pub labellable : Labellable x.labelling (placed_by x (first_spaces (length x.texts) e))

@@ -1,10 +1,10 @@
 // What the letter call and its step are given.
 use base_cell::verdicts::Labelling;
-use definitions::{Basis, Cells, Rotation, SnfMatrix, Text};
+use data_wyckoff::space::Space;
+use definitions::{Basis, Cells, Text};
 
-// What the step is given beside labels: the sites' positions, and of each candidate a multiplicity, a letter, M, q and
-// the Smith normal form. No struct of their own for the last five, since a field that is one takes no shorter loans;
-// and a lifetime for each of the three that callers lend.
+// What the step is given beside labels: the sites' positions, and of each candidate a multiplicity, a letter and a
+// space. A lifetime for each of the three that callers lend.
 #[derive(Clone, Copy)]
 pub struct Placed<'p, 'c, 's> {
     pub positions: &'p [Cells],
@@ -12,11 +12,7 @@ pub struct Placed<'p, 'c, 's> {
     pub symprec: f64,
     pub candidates: &'c [u16],
     pub letters: &'c [u8],
-    pub matrices: &'s [Rotation],
-    pub shifts: &'s [Cells],
-    pub ds: &'s [SnfMatrix],
-    pub ls: &'s [SnfMatrix],
-    pub rs: &'s [SnfMatrix],
+    pub spaces: &'s [Space],
 }
 
 // What the call is given: of each listed site its position, and of each candidate a multiplicity, a letter and a text.

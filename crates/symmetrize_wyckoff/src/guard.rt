@@ -35,14 +35,7 @@ pub(crate) fn assignable(
     let n = labels.len();
     let candidates = placed.candidates.len();
     let sites = [multiplicities.len(), placed.positions.len()];
-    let prepared = [
-        placed.letters.len(),
-        placed.matrices.len(),
-        placed.shifts.len(),
-        placed.ds.len(),
-        placed.ls.len(),
-        placed.rs.len(),
-    ];
+    let prepared = [placed.letters.len(), placed.spaces.len()];
     let listed = n <= MOST_LISTED;
     let few = candidates <= MOST_CANDIDATES;
     let uneven = unlike_lists(n, &sites);

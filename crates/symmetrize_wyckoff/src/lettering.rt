@@ -6,16 +6,16 @@ ghost use Rattle.base_cell.specs.Given.{arguments_of, orbit_cells, SameRooms, Sa
 ghost use Rattle.data_wyckoff.specs.Spaces.{lists};
 ghost use Rattle.symmetrize_wyckoff.specs.Given.{letter_arguments_of, letter_cells, placed_of};
 ghost use Rattle.symmetrize_wyckoff.specs.Lettering.{AssignJudged, Labellable, LabelledJudged, LetterJudged};
-ghost use Rattle.symmetrize_wyckoff.specs.Lettering.{assign_with};
-ghost use Rattle.symmetrize_wyckoff.specs.Lettering.{first_spaces, placed_by, SpacesListed};
+ghost use Rattle.symmetrize_wyckoff.specs.Lettering.{assign_with, placed_by};
 
 use crate::arguments::{Lettering, Placed};
 use crate::assign_wyckoffs_by_orbit;
 use base_cell::verdicts::Labelling;
 use base_cell::{Orbits, label_sites};
-use data_wyckoff::space::{Spaces, prepare_all};
+use data_wyckoff::space::{Space, prepare_all};
 use definitions::limits::MOST_CANDIDATES;
 use definitions::{Refusal, Verdict};
+use lent::Zero;
 
 impl Placed<'_, '_, '_> {
     // 10 of the letters, 13, of the first n labels and multiplicities. The orbits are lent shared: behind an exclusive
@@ -58,28 +58,23 @@ impl Placed<'_, '_, '_> {
 
 impl Lettering<'_> {
     // 9, 10, 13, by the spaces of the candidates
-    fn letter_spaces(&self, spaces: &Spaces, orbits: &mut Orbits, letters: &mut [u8]) -> Verdict
-        requires { SpacesListed (letter_arguments_of self.now) (lists spaces.now) }
+    fn letter_spaces(&self, spaces: &[Space], orbits: &mut Orbits, letters: &mut [u8]) -> Verdict
+        requires { Labellable (arguments_of self.now.labelling)
+            (placed_by (letter_arguments_of self.now) (lists spaces.now)) }
         ensures judged { LabelledJudged (arguments_of self.now.labelling)
-            (placed_by (letter_arguments_of self.now)
-            (first_spaces (length self.now.texts.now) (lists spaces.now)))
+            (placed_by (letter_arguments_of self.now) (lists spaces.now))
             (letter_cells (orbit_cells orbits.old) letters.old)
             (letter_cells (orbit_cells orbits.new) letters.new) result }
         ensures rooms { SameRooms (orbit_cells orbits.old) (orbit_cells orbits.new) }
         ensures same_lists { SameOrbits orbits.old orbits.new }
     {
-        let m = self.texts.len();
         let placed = Placed {
             positions: self.positions,
             basis: self.basis,
             symprec: self.symprec,
             candidates: self.multiplicities,
             letters: self.letters,
-            matrices: &spaces.matrices[..m],
-            shifts: &spaces.shifts[..m],
-            ds: &spaces.ds[..m],
-            ls: &spaces.ls[..m],
-            rs: &spaces.rs[..m],
+            spaces,
         };
         placed.letter_labelled(&self.labelling, orbits, letters)
     }
@@ -95,19 +90,8 @@ impl Lettering<'_> {
         ensures rooms { SameRooms (orbit_cells orbits.old) (orbit_cells orbits.new) }
         ensures same_lists { SameOrbits orbits.old orbits.new }
     {
-        let mut matrices = [[[0; 3]; 3]; MOST_CANDIDATES];
-        let mut shifts = [[0.0; 3]; MOST_CANDIDATES];
-        let mut ds = [[[0; 3]; 3]; MOST_CANDIDATES];
-        let mut ls = [[[0; 3]; 3]; MOST_CANDIDATES];
-        let mut rs = [[[0; 3]; 3]; MOST_CANDIDATES];
-        let mut lent = Spaces {
-            matrices: &mut matrices,
-            shifts: &mut shifts,
-            ds: &mut ds,
-            ls: &mut ls,
-            rs: &mut rs,
-        };
-        prepare_all(self.texts, &mut lent)?;
-        self.letter_spaces(&lent, orbits, letters)
+        let mut spaces = [Space::ZERO; MOST_CANDIDATES];
+        prepare_all(self.texts, &mut spaces)?;
+        self.letter_spaces(&spaces[..self.texts.len()], orbits, letters)
     }
 }

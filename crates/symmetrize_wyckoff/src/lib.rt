@@ -37,7 +37,7 @@ fn letter_table(labels: &[u16], multiplicities: &[u16], placed: &Placed) -> Lett
         (letter_of (sites_in (assign_with (placed_of placed.now) labels.now multiplicities.now))) result }
 {
     let mut spaces = [NO_SPACE; MOST_CANDIDATES];
-    put_spaces(placed, &mut spaces);
+    put_spaces(placed.spaces, &mut spaces);
     let prepared = Candidates {
         basis: placed.basis,
         symprec: placed.symprec,

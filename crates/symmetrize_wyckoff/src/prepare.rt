@@ -1,10 +1,10 @@
 // The candidates' spaces as floats, worked out once a candidate: moyo works them out anew in each match.
 ghost use Rattle.std.specs.Prelude.{◌≤◌, ◌≡◌, length};
 ghost use Rattle.definitions.specs.Limits.{most_candidates};
-ghost use Rattle.symmetrize_wyckoff.specs.Given.{spaces_of};
+ghost use Rattle.data_wyckoff.specs.Spaces.{lists};
 ghost use Rattle.symmetrize_wyckoff.specs.Prepared.{PutSpaces};
 
-use crate::arguments::Placed;
+use data_wyckoff::space::Space;
 use definitions::Position;
 use definitions::limits::MOST_CANDIDATES;
 use symmetrize_match::{RealSpace, real_space};
@@ -30,22 +30,12 @@ pub(crate) const NO_SPACE: RealSpace = RealSpace {
 };
 
 // The table is the caller's: one that is returned is copied twice.
-pub(crate) fn put_spaces(given: &Placed, out: &mut Prepared)
-    requires { (length given.now.matrices.now ≤ most_candidates)
-        × (length given.now.shifts.now ≡ length given.now.matrices.now)
-        × (length given.now.ds.now ≡ length given.now.matrices.now)
-        × (length given.now.ls.now ≡ length given.now.matrices.now)
-        × (length given.now.rs.now ≡ length given.now.matrices.now) }
+pub(crate) fn put_spaces(spaces: &[Space], out: &mut Prepared)
+    requires { length spaces.now ≤ most_candidates }
     ensures size { length out.new ≡ most_candidates }
-    ensures spaces { PutSpaces (spaces_of given.now) (length given.now.matrices.now) out.new }
+    ensures spaces { PutSpaces (lists spaces.now) (length spaces.now) out.new }
 {
-    for k in 0..given.matrices.len() {
-        out[k] = real_space(
-            given.matrices[k],
-            given.shifts[k],
-            given.ds[k],
-            given.ls[k],
-            given.rs[k],
-        );
+    for (k, space) in spaces.iter().enumerate() {
+        out[k] = real_space(space);
     }
 }

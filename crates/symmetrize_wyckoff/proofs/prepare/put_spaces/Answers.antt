@@ -1,22 +1,46 @@
 -- `put_spaces`: before the place k the table has the candidates' spaces.
-use mathlib.Core.Path.{◌≡◌, ◌∙◌}
+use Prim.Native.Nat.{ℕ, ◌<◌}
+use mathlib.Core.Path.{◌≡◌, sym, ap, subst, ◌∙◌}
+use mathlib.Core.List.{List, []}
 use native.Mathlib.Omega.{arith}
 use borrow.Author.Count.{below_more}
-use lib.ListN.{get_or, set, length-set}
+use lib.ListN.{length, get_or, set, length-set}
 use lib.Seq.{get_or-set_same, get_or-set_other}
+use Rattle.laws.specs.Lists.{map_at}
+use Rattle.data_wyckoff.specs.declared.space.Space as code
+use Rattle.data_wyckoff.specs.Spaces.{space_of, lists}
 use Rattle.symmetrize_match.specs.Match.{real_space, CountedDiagonal}
-use Rattle.symmetrize_wyckoff.specs.Given.{spaces_of}
 use Rattle.symmetrize_wyckoff.specs.Prepared.{no_space, lent_space}
 use Rattle.symmetrize_wyckoff.proofs.prepare.put_spaces.Goals as goal
+
+-- what a place behind a list is read as
+abbrev behind : code.Space
+behind = record { matrix = []; shift = []; d = []; l = []; r = [] }
+
+-- the space at a place, by its fields in the five lists
+space_at : (ss : List code.Space) (k : ℕ) → k < length ss → lent_space (lists ss) k ≡ space_of (get_or ss k behind)
+space_at ss k h = λ i. space_of (record {
+  matrix = map_at (λ s. s.matrix) ss k behind [] h i;
+  shift = map_at (λ s. s.shift) ss k behind [] h i;
+  d = map_at (λ s. s.d) ss k behind [] h i;
+  l = map_at (λ s. s.l) ss k behind [] h i;
+  r = map_at (λ s. s.r) ss k behind [] h i;
+})
 
 pub loop-k-preserved : goal.loop-k-preserved
 loop-k-preserved c =
     let l = c.loop-k in
     let v = c.real_space in
-    let space = lent_space (spaces_of c.args.given.now) in (
+    let ss = c.args.spaces.now in
+    let space = lent_space (lists ss) in
+    let e = space_at ss l.k c.loop-k-test.true in (
       simp length-set l.invariant.0,
       below_more (λ i. (get_or (set l.out l.k v.result) i no_space ≡ real_space (space i)) × CountedDiagonal (space i).snf.d)
           l.k
-          (λ i b. (get_or-set_other l.out l.k i v.result no_space (λ q. omega arith) ∙ (l.invariant.1 i b).0, (l.invariant.1 i b).1))
-          (get_or-set_same l.out l.k v.result no_space (omega (arith, l.invariant.0)) ∙ v.ensures.0, v.ensures.1),
+          (λ i b. (get_or-set_other l.out l.k i v.result no_space (λ q. omega arith) ∙ (l.invariant.1 i b).0, (l.invariant.1 i b).1)) (
+            get_or-set_same l.out l.k v.result no_space (omega (arith, l.invariant.0))
+                ∙ v.ensures.0
+                ∙ ap real_space (sym e),
+            subst (λ s. CountedDiagonal s.snf.d) (sym e) v.ensures.1,
+          ),
     )
