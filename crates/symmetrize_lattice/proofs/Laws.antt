@@ -1,28 +1,28 @@
--- The cases of a factor, and each verdict by the tests before it.
+-- The cases of a factor, the last test, and the bases of the new one.
 use mathlib.Core.Path.{◌≡◌, refl, sym, ap, ◌∙◌}
-use mathlib.Core.Bool.{Bool, true, false, not, cond, ◌&&◌, ◌||◌}
+use mathlib.Core.Bool.{Bool, true, false, not, cond, ◌&&◌}
 use mathlib.Core.List.{List}
 use mathlib.Core.Option as Math
-use lib.ListN.{length}
 use lib.Ieee.{eq}
-use Rattle.laws.specs.Tests.{without}
+use Rattle.laws.specs.Tests.{without, so, not_so}
+use Rattle.laws.specs.Verdicts.{HoldsAt, Passed, pass, found_at_lem, found_none, refuse, accept, verdict_of, accepted_with, refused_with_lem}
+use Rattle.definitions.specs.declared.Bases.{Bases}
 use Rattle.definitions.specs.declared.Refusal.{Refusal}
-use Rattle.definitions.specs.declared.Refusal.TheVariants.{Counts, MatrixEntry, FloatRange, Determinant, Lattice}
+use Rattle.definitions.specs.declared.Refusal.TheVariants.{Lattice}
 use Rattle.definitions.specs.Lists.{all}
-use Rattle.definitions.specs.Refusal.{Checked}
-use Rattle.laws.specs.Verdicts.{untested, is_true, is_false, TestedAll, verdict_of, checked}
-use Rattle.definitions.specs.Calls.{lattice_conditions}
+use Rattle.definitions.specs.Refusal.{Returns, outcome}
+use Rattle.definitions.specs.Calls.{LatticePromise}
 use Rattle.definitions.specs.Matrix.{Matrix}
-use Rattle.definitions.specs.Real.{RealMatrix, zero_f, at_f, det_f, is_finite, cholesky}
-use Rattle.definitions.specs.Symmetrization.{conventional_basis, new_basis, mean_metric, factor_fails, basis_or, lattice_fails, symmetrized_basis, deformation, new_of}
-use Rattle.definitions.specs.Limits.{not_some, in_range, within, not_unimodular, bad_copies}
+use Rattle.definitions.specs.Real.{RealMatrix, zero_f, at_f, det_f, mul_f, real, inverse_of_c, is_finite, cholesky}
+use Rattle.definitions.specs.Symmetrization.{new_basis, mean_metric, factor_fails, basis_or, lattice_fails, symmetrized_basis, deformation, new_of}
 use Rattle.math_real.specs.Rows.{all_finite_lem}
-use Rattle.std.specs.Prelude.{Option, None, Some, Result, Ok, Err, IfOk, IfErr}
+use Rattle.std.specs.Prelude.{Option, None, Some, Result, Ok, Err}
 use Rattle.std.specs.Option.{ok_or}
+use Rattle.std.proofs.Common.{subst}
 use Rattle.math_factor.specs.Factor.{handed_back}
+use Rattle.symmetrize_lattice.specs.declared.GivenLattice.{GivenLattice}
+use Rattle.symmetrize_lattice.specs.Given.{conditions, conventional_basis, IsNew}
 use Rattle.symmetrize_lattice.specs.Lattice.{deforms, symmetrized}
-
--- ---- the new basis
 
 module _ (old : RealMatrix) where
   good : (l : RealMatrix) → deforms old (new_basis old l) ≡ not (factor_fails old (Math.some l))
@@ -60,61 +60,43 @@ module _ (old : RealMatrix) where
     unfolding picked lattice_fails symmetrized_basis
     with_factor l b q e h d = by_factor (cholesky (mean_metric old rs)) l b q (e ∙ ap (λ (m : RealMatrix). handed_back (cholesky m)) mean) h d
 
--- ---- verdicts
+module _ (g : GivenLattice) where
+  abbrev new : RealMatrix
+  new = new_of g.lattice g.t g.c g.rotations.now
 
-module _ (l : RealMatrix) (t c : Matrix) (rs : List Matrix) where
-  abbrev pub bad_count : Bool
-  bad_count = not_some (length rs)
+  abbrev fails : Bool
+  fails = lattice_fails (conventional_basis g) g.rotations.now
 
-  abbrev pub bad_entries : Bool
-  bad_entries = not (in_range t) || not (in_range c) || not (all in_range rs)
+  abbrev pub Told : Result RealMatrix Refusal → Type 0
+  Told r = Returns (conditions g) (IsNew g) (outcome (λ m. m) r)
 
-  abbrev pub bad_floats : Bool
-  bad_floats = not (all (all (within 1000000)) l)
+  -- the last test: refused with 12, or the new basis
+  pub by_last : Passed (conditions g) 4 → (r : Result RealMatrix Refusal) → r ≡ ok_or (symmetrized (conventional_basis g) g.rotations.now) Lattice → Told r
+  unfolding verdict_of found_at_lem found_none HoldsAt
+  by_last p r h = at fails refl
+    where
+      told : (f : Bool) → fails ≡ f → r ≡ ok_or (cond f None (Some new)) Lattice
+      told f e = h ∙ ap (λ (b : Bool). ok_or (cond b None (Some new)) Lattice) e
 
-  abbrev pub bad_determinants : Bool
-  bad_determinants = not_unimodular t || bad_copies c
+      at : (f : Bool) → fails ≡ f → Told r
+      at true e =
+          subst Told (sym (told true e))
+          (refused_with_lem (conditions g) (IsNew g) Lattice (refuse (conditions g) 4 p (so e) (Err Lattice) refl))
+      at false e =
+          subst Told (sym (told false e))
+          (accepted_with (conditions g) (IsNew g) new (accept (conditions g) (pass (conditions g) 4 p (not_so e)) refl) refl)
 
-  abbrev pub fails : Bool
-  fails = lattice_fails (conventional_basis l t c) rs
+  abbrev pub Promised : Result Bases Refusal → Type 0
+  Promised = LatticePromise g.lattice g.t g.c g.rotations.now
 
-  pub refused_2 : bad_count ≡ true → Checked (lattice_conditions l t c rs) (Err Counts)
-  unfolding verdict_of TestedAll
-  refused_2 a = checked (lattice_conditions l t c rs) (is_true a, (untested, (untested, (untested, (untested, tt))))) (Err Counts) refl
+  -- the primitive and the listed basis are made of the new one
+  pub bases_accepted : (m p q : RealMatrix) → Told (Ok m) → p ≡ mul_f m (inverse_of_c g.c) → q ≡ mul_f p (real g.c) → Promised (Ok (record { conventional = m; primitive = p; listed = q }))
+  unfolding Returns
+  bases_accepted m p q (past, e) h i =
+      let j = h ∙ ap (λ (b : RealMatrix). mul_f b (inverse_of_c g.c)) e in
+      let k = i ∙ ap (λ (b : RealMatrix). mul_f b (real g.c)) j in
+      (past, λ x. record { conventional = e x; primitive = j x; listed = k x })
 
-  module _ (a : bad_count ≡ false) where
-    pub refused_3 : bad_entries ≡ true → Checked (lattice_conditions l t c rs) (Err MatrixEntry)
-    unfolding verdict_of TestedAll
-    refused_3 b = checked (lattice_conditions l t c rs) (is_false a, (is_true b, (untested, (untested, (untested, tt))))) (Err MatrixEntry) refl
-
-    module _ (b : bad_entries ≡ false) where
-      pub refused_4 : bad_floats ≡ true → Checked (lattice_conditions l t c rs) (Err FloatRange)
-      unfolding verdict_of TestedAll
-      refused_4 d = checked (lattice_conditions l t c rs) (is_false a, (is_false b, (is_true d, (untested, (untested, tt))))) (Err FloatRange) refl
-
-      module _ (d : bad_floats ≡ false) where
-        pub refused_7 : bad_determinants ≡ true → Checked (lattice_conditions l t c rs) (Err Determinant)
-        unfolding verdict_of TestedAll
-        refused_7 e = checked (lattice_conditions l t c rs) (is_false a, (is_false b, (is_false d, (is_true e, (untested, tt))))) (Err Determinant) refl
-
-        module _ (e : bad_determinants ≡ false) where
-          pub refused_12 : fails ≡ true → Checked (lattice_conditions l t c rs) (Err Lattice)
-          unfolding verdict_of TestedAll
-          refused_12 f = checked (lattice_conditions l t c rs) (is_false a, (is_false b, (is_false d, (is_false e, (is_true f, tt))))) (Err Lattice) refl
-
-          pub accepted : fails ≡ false → Checked (lattice_conditions l t c rs) (Ok tt)
-          unfolding verdict_of TestedAll
-          accepted f = checked (lattice_conditions l t c rs) (is_false a, (is_false b, (is_false d, (is_false e, (is_false f, tt))))) (Ok tt) refl
-
-          -- the last test: refused with 12, or the new basis
-          pub by_last : (r : Result RealMatrix Refusal) → r ≡ ok_or (symmetrized (conventional_basis l t c) rs) Lattice →
-              IfOk r (λ m. Checked (lattice_conditions l t c rs) (Ok tt) × (m ≡ new_of l t c rs)) × IfErr r (λ k. Checked (lattice_conditions l t c rs) (Err k))
-          by_last r h = at fails refl
-            where
-              at : (f : Bool) → fails ≡ f → IfOk r (λ m. Checked (lattice_conditions l t c rs) (Ok tt) × (m ≡ new_of l t c rs)) × IfErr r (λ k. Checked (lattice_conditions l t c rs) (Err k))
-              at true e =
-                  let k : r ≡ Err Lattice = h ∙ ap (λ (f : Bool). ok_or (cond f None (Some (new_of l t c rs))) Lattice) e in
-                  rw k (tt, refused_12 e)
-              at false e =
-                  let k : r ≡ Ok (new_of l t c rs) = h ∙ ap (λ (f : Bool). ok_or (cond f None (Some (new_of l t c rs))) Lattice) e in
-                  rw k ((accepted e, refl), tt)
+  pub bases_refused : (r : Refusal) → Told (Err r) → Promised (Err r)
+  unfolding Returns
+  bases_refused r h = h

@@ -1,1 +1,2 @@
 pub mod Lattice
+pub mod Given

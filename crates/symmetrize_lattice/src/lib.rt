@@ -2,45 +2,20 @@
 // symmetrize/symmetrization.rs), with the lattice's part of base/transformation.rs.
 #![tactic(auto)]
 
-ghost use Rattle.std.specs.Prelude.{◌≤◌, ◌≡◌, not, ◌||◌, length, IfOk, IfErr};
+ghost use Rattle.std.specs.Prelude.{◌≤◌, ◌≡◌, not, ◌||◌, length};
 ghost use Rattle.definitions.specs.Lists.{all};
-ghost use Rattle.definitions.specs.Refusal.{Checked};
-ghost use Rattle.definitions.specs.Calls.{lattice_conditions, LatticePromise};
+ghost use Rattle.definitions.specs.Refusal.{Returns, outcome};
+ghost use Rattle.definitions.specs.Calls.{LatticePromise};
 ghost use Rattle.definitions.specs.Symmetrization as Symmetrization;
-ghost use Rattle.definitions.specs.Symmetrization.{conventional_basis, mean_metric, new_basis};
-ghost use Rattle.definitions.specs.Symmetrization.{new_of};
+ghost use Rattle.definitions.specs.Symmetrization.{mean_metric, new_basis};
 ghost use Rattle.definitions.specs.Limits.{in_range, not_unimodular, bad_copies};
 ghost use Rattle.symmetrize_lattice.specs.Lattice.{turned, total_metric, deforms, symmetrized};
+ghost use Rattle.symmetrize_lattice.specs.Given.{conditions, conventional_basis, IsNew};
 
 use checks::{all_in_range, good_copies, in_range, is_some_count, lattice_within, unimodular};
-use definitions::{Basis, Linear, Refusal, Rotation, Verdict};
+use definitions::{Bases, Basis, Linear, Refusal, Rotation};
 use math_factor::cholesky;
 use math_real::{inverse, matrix, whole};
-
-// The bases of one lattice: of the conventional cell, of the primitive cell, and of the cell that is listed.
-#[derive(Clone, Copy)]
-pub struct Bases {
-    pub conventional: Basis,
-    pub primitive: Basis,
-    pub listed: Basis,
-}
-
-const ZEROS: Basis = [[0.0; 3]; 3];
-
-// after a refusal
-pub const NO_BASES: Bases = Bases {
-    conventional: ZEROS,
-    primitive: ZEROS,
-    listed: ZEROS,
-};
-
-// the basis of columns l times T, then C
-fn conventional_basis(l: Basis, t: Linear, c: Linear) -> Basis
-    ensures { result ≡ conventional_basis l t c }
-{
-    let p = matrix::product(l, whole::real(t));
-    matrix::product(p, whole::real(c))
-}
 
 fn metric(b: Basis) -> Basis
     ensures { result ≡ Symmetrization.metric b }
@@ -60,7 +35,7 @@ fn turned_metric(g: Basis, rotation: Rotation) -> Basis
 fn total_metric(g: Basis, rotations: &[Rotation]) -> Basis
     ensures { result ≡ total_metric g rotations.now }
 {
-    let mut total = ZEROS;
+    let mut total: Basis = [[0.0; 3]; 3];
     for rotation in rotations {
         let next = matrix::sum(total, turned_metric(g, *rotation));
         total = next;
@@ -109,66 +84,68 @@ fn symmetrized(old: Basis, rotations: &[Rotation]) -> Option<Basis>
     None
 }
 
-fn entries_in_range(t: Linear, c: Linear, rotations: &[Rotation]) -> bool
-    ensures { result ≡ not (not (in_range t) || not (in_range c) || not (all in_range rotations.now)) }
-{
-    in_range(t) & in_range(c) & all_in_range(rotations)
+// A lattice as a caller gives it: its basis, the change T to the selected primitive basis and the centring matrix C, and
+// the rotations of the conventional cell.
+#[derive(Clone, Copy)]
+pub struct GivenLattice<'a> {
+    pub lattice: Basis,
+    pub t: Linear,
+    pub c: Linear,
+    pub rotations: &'a [Rotation],
 }
 
-fn good_determinants(t: Linear, c: Linear) -> bool
-    ensures { result ≡ not (not_unimodular t || bad_copies c) }
-{
-    unimodular(t) & good_copies(c)
-}
+impl GivenLattice<'_> {
+    // the basis of columns times T, then C
+    fn conventional_basis(&self) -> Basis
+        ensures { result ≡ conventional_basis self.now }
+    {
+        let p = matrix::product(self.lattice, whole::real(self.t));
+        matrix::product(p, whole::real(self.c))
+    }
 
-// the new conventional basis, or the refusal
-fn new_lattice(l: Basis, t: Linear, c: Linear, rotations: &[Rotation]) -> Result<Basis, Refusal>
-    ensures accepted { IfOk result (λ m.
-        Checked (lattice_conditions l t c rotations.now) (Ok tt) × (m ≡ new_of l t c rotations.now)) }
-    ensures refused { IfErr result (λ r. Checked (lattice_conditions l t c rotations.now) (Err r)) }
-{
-    if !is_some_count(rotations.len()) {
-        return Err(Refusal::Counts);
+    fn entries_in_range(&self) -> bool
+        ensures { result ≡ not (not (in_range self.now.t) || not (in_range self.now.c)
+            || not (all in_range self.now.rotations.now)) }
+    {
+        in_range(self.t) & in_range(self.c) & all_in_range(self.rotations)
     }
-    if !entries_in_range(t, c, rotations) {
-        return Err(Refusal::MatrixEntry);
-    }
-    if !lattice_within(l) {
-        return Err(Refusal::FloatRange);
-    }
-    if !good_determinants(t, c) {
-        return Err(Refusal::Determinant);
-    }
-    let old = conventional_basis(l, t, c);
-    symmetrized(old, rotations).ok_or(Refusal::Lattice)
-}
 
-// The conventional basis is the new one, the primitive it times C⁻¹ and the listed that times C; all are zero after
-// a refusal.
-pub fn symmetrize_lattice(
-    l: Basis,
-    t: Linear,
-    c: Linear,
-    rotations: &[Rotation],
-    bases: &mut Bases,
-) -> Verdict
-    ensures { LatticePromise l t c rotations.now
-        bases.new.conventional bases.new.primitive bases.new.listed result }
-{
-    match new_lattice(l, t, c, rotations) {
-        Ok(conventional) => {
-            let primitive = matrix::product(conventional, whole::inverse_of_c(c));
-            let listed = matrix::product(primitive, whole::real(c));
-            *bases = Bases {
-                conventional,
-                primitive,
-                listed,
-            };
-            Ok(())
+    fn good_determinants(&self) -> bool
+        ensures { result ≡ not (not_unimodular self.now.t || bad_copies self.now.c) }
+    {
+        unimodular(self.t) & good_copies(self.c)
+    }
+
+    // the new conventional basis
+    fn symmetrized_basis(&self) -> Result<Basis, Refusal>
+        ensures { Returns (conditions self.now) (IsNew self.now) (outcome (λ m. m) result) }
+    {
+        if !is_some_count(self.rotations.len()) {
+            return Err(Refusal::Counts);
         }
-        Err(refusal) => {
-            *bases = NO_BASES;
-            Err(refusal)
+        if !self.entries_in_range() {
+            return Err(Refusal::MatrixEntry);
         }
+        if !lattice_within(self.lattice) {
+            return Err(Refusal::FloatRange);
+        }
+        if !self.good_determinants() {
+            return Err(Refusal::Determinant);
+        }
+        symmetrized(self.conventional_basis(), self.rotations).ok_or(Refusal::Lattice)
     }
+}
+
+// The conventional basis is the new one, the primitive it times C⁻¹ and the listed that times C.
+pub fn symmetrize_lattice(given: &GivenLattice) -> Result<Bases, Refusal>
+    ensures { LatticePromise given.now.lattice given.now.t given.now.c given.now.rotations.now result }
+{
+    let conventional = given.symmetrized_basis()?;
+    let primitive = matrix::product(conventional, whole::inverse_of_c(given.c));
+    let listed = matrix::product(primitive, whole::real(given.c));
+    Ok(Bases {
+        conventional,
+        primitive,
+        listed,
+    })
 }
