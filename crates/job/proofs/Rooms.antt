@@ -1,6 +1,6 @@
 -- Lists that are too short, and lists that are not.
 use Prim.Native.Nat.{ℕ, ◌+◌, ◌≤◌, ◌<◌}
-use mathlib.Core.Path.{◌≡◌, refl, sym, ◌∙◌}
+use mathlib.Core.Path.{◌≡◌, sym, ◌∙◌}
 use mathlib.Core.Bool.{Bool, true, false, not, ◌||◌}
 use mathlib.Core.List.{List, [], ◌∷◌}
 use native.Mathlib.Omega.{arith}
@@ -15,19 +15,7 @@ use Rattle.laws.specs.Lists.{none_head, none_tail}
 use Rattle.job.specs.Places.{symprec_from}
 use Rattle.job.specs.Counted.{more_than, Within, within_not}
 use Rattle.job.specs.declared.room.Rooms.{Rooms}
-use Rattle.job.specs.Given.{short, shorter_two, shorter_three, Enough, takes_up, readable, most_each}
-
-pub any_skip : {A : Type 0} (t : A → Bool) (a : A) (l : List A) → t a ≡ false → any t (a ∷ l) ≡ any t l
-unfolding any
-any_skip t a l e = rw (e, any)
-
-pub any_one : {A : Type 0} (t : A → Bool) (a : A) → any t (a ∷ []) ≡ t a
-unfolding any
-any_one t a = by (t a)
-  where
-    by : (b : Bool) → elim b as (λ (x : Bool). Bool) [ true ↦ true | false ↦ false ] ≡ b
-    by true = refl
-    by false = refl
+use Rattle.job.specs.Given.{short, Enough, takes_up, readable, most_each}
 
 -- ---- a list that is not too short
 
@@ -40,17 +28,17 @@ first n a l e = room n a (none_head (shorter_than n) a l e)
 second : (n a b : ℕ) (l : List ℕ) → any (shorter_than n) (a ∷ b ∷ l) ≡ false → n ≤ b
 second n a b l e = first n b l (none_tail (shorter_than n) a (b ∷ l) e)
 
-third : (n a b c : ℕ) → shorter_three n a b c ≡ false → n ≤ c
+third : (n a b c : ℕ) → any (shorter_than n) (a ∷ b ∷ c ∷ []) ≡ false → n ≤ c
 third n a b c e = second n b c [] (none_tail (shorter_than n) a (b ∷ c ∷ []) e)
 
 pub enough : (k : JobCounts) (e : Rooms) → short k e ≡ false → Enough k e
 enough k e h =
-    let s = shorter_two k.sites e.elements e.positions in
-    let o = shorter_two k.operations e.rotations e.translations in
+    let s = any (shorter_than k.sites) (e.elements ∷ e.positions ∷ []) in
+    let o = any (shorter_than k.operations) (e.rotations ∷ e.translations ∷ []) in
     let i = shorter_than k.images e.images in
-    let g = shorter_two k.targets e.rotations_of_targets e.translations_of_targets in
+    let g = any (shorter_than k.targets) (e.rotations_of_targets ∷ e.translations_of_targets ∷ []) in
     let r = shorter_than k.rotations e.conventional in
-    let w = shorter_three k.candidates e.multiplicities e.letters e.texts in
+    let w = any (shorter_than k.candidates) (e.multiplicities ∷ e.letters ∷ e.texts ∷ []) in
     let h₅ = neither_left (s || o || i || g || r) w h in
     let h₄ = neither_left (s || o || i || g) r h₅ in
     let h₃ = neither_left (s || o || i) g h₄ in

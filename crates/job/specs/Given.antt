@@ -98,21 +98,15 @@ rooms_of e =
       texts = length e.texts;
     }
 
-abbrev pub shorter_two : ℕ → ℕ → ℕ → Bool
-shorter_two n a b = any (shorter_than n) (a ∷ b ∷ [])
-
-abbrev pub shorter_three : ℕ → ℕ → ℕ → ℕ → Bool
-shorter_three n a b c = any (shorter_than n) (a ∷ b ∷ c ∷ [])
-
 -- one of the lists is too short for so many of each command
 abbrev pub short : JobCounts → Rooms → Bool
 short k e =
-    shorter_two k.sites e.elements e.positions
-    || shorter_two k.operations e.rotations e.translations
+    any (shorter_than k.sites) (e.elements ∷ e.positions ∷ [])
+    || any (shorter_than k.operations) (e.rotations ∷ e.translations ∷ [])
     || shorter_than k.images e.images
-    || shorter_two k.targets e.rotations_of_targets e.translations_of_targets
+    || any (shorter_than k.targets) (e.rotations_of_targets ∷ e.translations_of_targets ∷ [])
     || shorter_than k.rotations e.conventional
-    || shorter_three k.candidates e.multiplicities e.letters e.texts
+    || any (shorter_than k.candidates) (e.multiplicities ∷ e.letters ∷ e.texts ∷ [])
 
 -- none is
 pub record Enough (k : JobCounts) (e : Rooms) : Type 0 where

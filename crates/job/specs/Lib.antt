@@ -3,3 +3,4 @@ pub mod Places
 pub mod Words
 pub mod Counted
 pub mod Given
+pub mod Alone

@@ -1,21 +1,12 @@
--- Operands byte by byte, as the code reads them.
-use Rattle.std.specs.Prelude.{ℕ, ◌+◌, List, get_or, ℤ, Float}
+-- A float by its eight bytes, one by one.
+use Rattle.std.specs.Prelude.{ℕ, ◌+◌, List, get_or, Float}
 use Rattle.definitions.specs.Job.{float}
-use Rattle.job_laws.specs.Reader.{place, from_complement}
-
-abbrev pub word2 : List ℕ → ℕ → ℕ
-word2 bs at = place (get_or bs at 0) (get_or bs (at + 1) 0)
-
-abbrev pub word4 : List ℕ → ℕ → ℕ
-word4 bs at = place (get_or bs at 0) (place (get_or bs (at + 1) 0) (place (get_or bs (at + 2) 0) (get_or bs (at + 3) 0)))
+use Rattle.job_laws.specs.Reader.{place}
 
 abbrev pub word8 : List ℕ → ℕ → ℕ
 word8 bs at =
     place (get_or bs at 0) (place (get_or bs (at + 1) 0) (place (get_or bs (at + 2) 0) (place (get_or bs (at + 3) 0)
     (place (get_or bs (at + 4) 0) (place (get_or bs (at + 5) 0) (place (get_or bs (at + 6) 0) (get_or bs (at + 7) 0)))))))
-
-abbrev pub signed_at : List ℕ → ℕ → ℤ
-signed_at bs at = from_complement 1 (get_or bs at 0)
 
 abbrev pub float_at : List ℕ → ℕ → Float
 float_at bs at = float (word8 bs at)

@@ -10,7 +10,7 @@ ghost use Rattle.job.specs.Words.{float_at};
 
 use crate::JobLists;
 use crate::lists::put_items;
-use crate::operands::{cells_at, float_at, lattice_of, matrix_at};
+use crate::operands::Operand;
 use definitions::{Basis, Cells, JobCounts, Linear, Rotation, Text};
 
 // L, T and C
@@ -27,10 +27,10 @@ fn fill_opening(
         × (shift.new ≡ cells_from bytes.now 83)
         × (c.new ≡ matrix_from bytes.now 108) }
 {
-    *lattice = lattice_of(bytes);
-    *t = matrix_at(bytes, 74);
-    *shift = cells_at(bytes, 83);
-    *c = matrix_at(bytes, 108);
+    *lattice = Basis::read(bytes, 1);
+    *t = Linear::read(bytes, 74);
+    *shift = Cells::read(bytes, 83);
+    *c = Linear::read(bytes, 108);
 }
 
 // S
@@ -111,7 +111,7 @@ fn fill_symprec(bytes: &[u8], at: usize, symprec: &mut f64)
     requires { at + 10 ≤ length bytes.now }
     ensures { symprec.new ≡ float_at bytes.now (at + 1) }
 {
-    *symprec = float_at(bytes, at + 1);
+    *symprec = f64::read(bytes, at + 1);
 }
 
 impl JobLists<'_> {

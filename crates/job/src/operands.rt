@@ -1,31 +1,76 @@
-// Operands at a place of the bytes, little-endian: floats by their bits, numbers of one, two and four bytes, matrices,
-// texts.
-ghost use Rattle.std.specs.Prelude.{◌+◌, ◌*◌, ◌≤◌, ◌≡◌, [], ◌∷◌, length, take, drop};
+// Operands of a job, little-endian: floats by their bits, numbers of one, two and four bytes, matrices, texts. Each is
+// made of its own bytes; `read` takes these from their place.
+ghost use Rattle.std.specs.Prelude.{ℕ, List, ◌+◌, ◌*◌, ◌≤◌, ◌≡◌, get_or, length, take, drop};
 ghost use Rattle.std.specs.Float.{binary64};
 ghost use Rattle.std.specs.Float.Ieee.{of_bits};
-ghost use Rattle.job_laws.specs.Reader.{from_complement};
-ghost use Rattle.job.specs.Places.{integer_at, lattice_at, cells_from, matrix_from};
-ghost use Rattle.job.specs.Words.{word2, word4, word8, signed_at, float_at};
+ghost use Rattle.definitions.specs.Job.{float};
+ghost use Rattle.definitions.specs.Matrix.{mat};
+ghost use Rattle.job.specs.Places.{word_at, integer_at, floats_at, text_at, cells_from, matrix_from};
+ghost use Rattle.job.specs.Alone.{number_alone, integer_alone, float_alone};
+ghost use Rattle.job.specs.Alone.{cells_alone, lattice_alone, matrix_alone, text_alone};
 
-use definitions::{Basis, Cells, Rotation};
+use definitions::{Basis, Cells, Rotation, Text};
 
-// N bytes from a place on
-pub(crate) fn bytes_at<const N: usize>(bytes: &[u8], at: usize) -> [u8; N]
-    requires { at + N ≤ length bytes.now }
-    ensures { result ≡ take N (drop at bytes.now) }
-{
-    let mut part = [0; N];
-    part.copy_from_slice(&bytes[at..at + N]);
-    part
+// An operand of a command: N bytes, and their value.
+pub(crate) trait Operand<const N: usize>: Sized {
+    // the value at a place of a job's bytes
+    ghost value: { List ℕ → ℕ → Self };
+
+    // a reference, since where an array of N is passed by value each impl would have to repeat the clause
+    fn of(own: &[u8; N]) -> Self
+        ensures { result ≡ value own.now 0 };
+
+    // no byte around its own counts
+    ghost alone: { (bs : List ℕ) (at : ℕ) → value (take N (drop at bs)) 0 ≡ value bs at };
+
+    // the operand at a place
+    final fn read(bytes: &[u8], at: usize) -> Self
+        requires { at + N ≤ length bytes.now }
+        ensures { result ≡ value bytes.now at }
+    {
+        let own: &[u8; N] = (&bytes[at..at + N]).try_into().unwrap();
+        Self::of(own)
+    }
 }
 
-// Numbers of eight, four and two bytes: the library's `from_le_bytes` is each type's own, so that a trait of it would
-// say this line once a type as well.
-fn word_at(bytes: &[u8], at: usize) -> u64
-    requires { at + 8 ≤ length bytes.now }
-    ensures { result ≡ word8 bytes.now at }
-{
-    u64::from_le_bytes(bytes_at(bytes, at))
+impl Operand<1> for u8 {
+    ghost value = { word_at 1 };
+
+    fn of(own: &[u8; 1]) -> u8 {
+        own[0]
+    }
+
+    ghost alone = { λ bs at. number_alone bs at 1 };
+}
+
+impl Operand<1> for i8 {
+    ghost value = { integer_at 1 };
+
+    fn of(own: &[u8; 1]) -> i8 {
+        i8::from_le_bytes(*own)
+    }
+
+    ghost alone = { λ bs at. integer_alone bs at 1 };
+}
+
+impl Operand<2> for u16 {
+    ghost value = { word_at 2 };
+
+    fn of(own: &[u8; 2]) -> u16 {
+        u16::from_le_bytes(*own)
+    }
+
+    ghost alone = { λ bs at. number_alone bs at 2 };
+}
+
+impl Operand<4> for i32 {
+    ghost value = { integer_at 4 };
+
+    fn of(own: &[u8; 4]) -> i32 {
+        i32::from_le_bytes(*own)
+    }
+
+    ghost alone = { λ bs at. integer_alone bs at 4 };
 }
 
 // the value of a pattern; `from_bits` takes no NaN, so that one is made
@@ -38,100 +83,62 @@ pub fn float_of(bits: u64) -> f64
     f64::from_bits(bits)
 }
 
-pub(crate) fn float_at(bytes: &[u8], at: usize) -> f64
-    requires { at + 8 ≤ length bytes.now }
-    ensures { result ≡ float_at bytes.now at }
-{
-    float_of(word_at(bytes, at))
+impl Operand<8> for f64 {
+    ghost value = { λ bs at. float (word_at 8 bs at) };
+
+    fn of(own: &[u8; 8]) -> f64 {
+        float_of(u64::from_le_bytes(*own))
+    }
+
+    ghost alone = { float_alone };
 }
 
-// three floats, each so many bytes behind the one before
-fn floats_at(bytes: &[u8], at: usize, step: usize) -> Cells
-    requires { at + 2 * step + 8 ≤ length bytes.now }
-    ensures { result ≡
-        float_at bytes.now at ∷ float_at bytes.now (at + step) ∷
-        float_at bytes.now (at + 2 * step) ∷ [] }
-{
-    let x = float_at(bytes, at);
-    let y = float_at(bytes, at + step);
-    let z = float_at(bytes, at + 2 * step);
-    [x, y, z]
+impl Operand<24> for Cells {
+    ghost value = { cells_from };
+
+    fn of(own: &[u8; 24]) -> Cells {
+        [f64::read(own, 0), f64::read(own, 8), f64::read(own, 16)]
+    }
+
+    ghost alone = { cells_alone };
 }
 
-pub(crate) fn cells_at(bytes: &[u8], at: usize) -> Cells
-    requires { at + 24 ≤ length bytes.now }
-    ensures { result ≡ cells_from bytes.now at }
-{
-    floats_at(bytes, at, 8)
-}
+// column by column
+impl Operand<72> for Basis {
+    ghost value = { λ bs at. mat (λ i j. float (get_or (floats_at 9 bs at) (3 * j + i) 0)) };
 
-// one coordinate of each basis vector in a row: they stand column by column
-pub(crate) fn lattice_of(bytes: &[u8]) -> Basis
-    requires { 73 ≤ length bytes.now }
-    ensures { result ≡ lattice_at bytes.now }
-{
-    let x = floats_at(bytes, 1, 24);
-    let y = floats_at(bytes, 9, 24);
-    let z = floats_at(bytes, 17, 24);
-    [x, y, z]
-}
+    fn of(own: &[u8; 72]) -> Basis {
+        [
+            [f64::read(own, 0), f64::read(own, 24), f64::read(own, 48)],
+            [f64::read(own, 8), f64::read(own, 32), f64::read(own, 56)],
+            [f64::read(own, 16), f64::read(own, 40), f64::read(own, 64)],
+        ]
+    }
 
-// ---- signed numbers, from two's complement
-
-fn signed_byte(b: u8) -> i8
-    ensures { result ≡ from_complement 1 b }
-{
-    b.cast_signed()
-}
-
-fn row_at(bytes: &[u8], at: usize) -> [i8; 3]
-    requires { at + 3 ≤ length bytes.now }
-    ensures { result ≡
-        signed_at bytes.now at ∷ signed_at bytes.now (at + 1) ∷
-        signed_at bytes.now (at + 2) ∷ [] }
-{
-    let x = signed_byte(bytes[at]);
-    let y = signed_byte(bytes[at + 1]);
-    let z = signed_byte(bytes[at + 2]);
-    [x, y, z]
+    ghost alone = { lattice_alone };
 }
 
 // row by row
-pub(crate) fn matrix_at(bytes: &[u8], at: usize) -> Rotation
-    requires { at + 9 ≤ length bytes.now }
-    ensures { result ≡ matrix_from bytes.now at }
-{
-    let x = row_at(bytes, at);
-    let y = row_at(bytes, at + 3);
-    let z = row_at(bytes, at + 6);
-    [x, y, z]
+impl Operand<9> for Rotation {
+    ghost value = { matrix_from };
+
+    fn of(own: &[u8; 9]) -> Rotation {
+        [
+            [i8::read(own, 0), i8::read(own, 1), i8::read(own, 2)],
+            [i8::read(own, 3), i8::read(own, 4), i8::read(own, 5)],
+            [i8::read(own, 6), i8::read(own, 7), i8::read(own, 8)],
+        ]
+    }
+
+    ghost alone = { matrix_alone };
 }
 
-fn signed_word(u: u32) -> i32
-    ensures { result ≡ from_complement 4 u }
-{
-    u.cast_signed()
-}
+impl Operand<64> for Text {
+    ghost value = { text_at };
 
-fn quarter_at(bytes: &[u8], at: usize) -> u32
-    requires { at + 4 ≤ length bytes.now }
-    ensures { result ≡ word4 bytes.now at }
-{
-    u32::from_le_bytes(bytes_at(bytes, at))
-}
+    fn of(own: &[u8; 64]) -> Text {
+        *own
+    }
 
-pub(crate) fn element_at(bytes: &[u8], at: usize) -> i32
-    requires { at + 4 ≤ length bytes.now }
-    ensures { result ≡ integer_at 4 bytes.now at }
-{
-    signed_word(quarter_at(bytes, at))
-}
-
-// ---- unsigned numbers
-
-pub(crate) fn number_at(bytes: &[u8], at: usize) -> u16
-    requires { at + 2 ≤ length bytes.now }
-    ensures { result ≡ word2 bytes.now at }
-{
-    u16::from_le_bytes(bytes_at(bytes, at))
+    ghost alone = { text_alone };
 }

@@ -1,9 +1,10 @@
 // Whether the lists that are lent have room for a job.
 ghost use Rattle.std.specs.Prelude.{◌≡◌, not, ◌&&◌};
-ghost use Rattle.job.specs.Given.{shorter_two, shorter_three, short, takes_up};
+ghost use Rattle.job.specs.Given.{short, takes_up};
 
 use crate::layout;
 use definitions::JobCounts;
+use lent::lacks_room;
 
 // How many entries each lent list has.
 #[derive(Clone, Copy)]
@@ -21,49 +22,29 @@ pub struct Rooms {
     pub texts: usize,
 }
 
-fn short_two(n: usize, a: usize, b: usize) -> bool
-    ensures { result ≡ shorter_two n a b }
-{
-    if a < n {
-        return true;
-    }
-    b < n
-}
-
-fn short_three(n: usize, a: usize, b: usize, c: usize) -> bool
-    ensures { result ≡ shorter_three n a b c }
-{
-    if a < n {
-        return true;
-    }
-    short_two(n, b, c)
-}
-
 impl Rooms {
     // Whether a list is too short for so many of each command.
     pub(crate) fn short(self, k: JobCounts) -> bool
         ensures { result ≡ short k self }
     {
-        let sites = short_two(k.sites, self.elements, self.positions);
-        let operations = short_two(k.operations, self.rotations, self.translations);
-        let permutations = self.images < k.images;
-        let targets = short_two(
-            k.targets,
-            self.rotations_of_targets,
-            self.translations_of_targets,
-        );
-        let given = self.conventional < k.rotations;
-        let candidates = short_three(k.candidates, self.multiplicities, self.letters, self.texts);
-        sites | operations | permutations | targets | given | candidates
+        lacks_room(k.sites, [self.elements, self.positions])
+            || lacks_room(k.operations, [self.rotations, self.translations])
+            || self.images < k.images
+            || lacks_room(
+                k.targets,
+                [self.rotations_of_targets, self.translations_of_targets],
+            )
+            || self.conventional < k.rotations
+            || lacks_room(
+                k.candidates,
+                [self.multiplicities, self.letters, self.texts],
+            )
     }
 
     // Whether so many of each command take up so many bytes, and no list is too short for them.
     pub(crate) fn readable(self, bytes: usize, k: JobCounts) -> bool
         ensures { result ≡ (takes_up k bytes && not (short k self)) }
     {
-        if !layout::takes_up(k, bytes) {
-            return false;
-        }
-        !self.short(k)
+        layout::takes_up(k, bytes) && !self.short(k)
     }
 }
