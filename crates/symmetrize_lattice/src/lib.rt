@@ -15,12 +15,13 @@ ghost use Rattle.symmetrize_lattice.specs.Given.{conditions, conventional_basis,
 use checks::{all_in_range, good_copies, in_range, is_some_count, lattice_within, unimodular};
 use definitions::{Bases, Basis, Linear, Refusal, Rotation};
 use math_factor::cholesky;
+use math_matrix::transposed;
 use math_real::{inverse, matrix, whole};
 
 fn metric(b: Basis) -> Basis
     ensures { result ≡ Symmetrization.metric b }
 {
-    matrix::product(matrix::transpose(b), b)
+    matrix::product(transposed(b), b)
 }
 
 // (RᵀG)R
@@ -28,7 +29,7 @@ fn turned_metric(g: Basis, rotation: Rotation) -> Basis
     ensures { result ≡ turned g rotation }
 {
     let r = whole::real(rotation);
-    let p = matrix::product(matrix::transpose(r), g);
+    let p = matrix::product(transposed(r), g);
     matrix::product(p, r)
 }
 
@@ -54,7 +55,7 @@ fn mean_metric(old: Basis, rotations: &[Rotation]) -> Basis
 fn new_basis(old: Basis, factor: Basis) -> Basis
     ensures { result ≡ new_basis old factor }
 {
-    let upper = matrix::transpose(factor);
+    let upper = transposed(factor);
     if inverse::determinant(old) < 0.0 {
         return matrix::negate_third_row(upper);
     }
