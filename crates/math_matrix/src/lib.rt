@@ -1,5 +1,5 @@
-// Matrices, three rows of three: columns, wider entries, and of whole numbers the determinant, the adjugate, the inverse
-// and a change of basis. Entries have 16 bits, cofactors 32 and sums 64, so that the types keep every number in range.
+// Matrices, three rows of three: columns, wider entries, and of whole numbers the determinant, adjugate, inverse and a
+// change of basis. Entries have 16 bits, cofactors 32 and sums 64, so that the types keep every number in range.
 #![tactic(auto)]
 
 ghost use Rattle.std.specs.Prelude.{◌≡◌, ℕ, ◌≤◌, [], get_or, nat_abs, ◌*ℤ◌};

@@ -47,8 +47,7 @@ impl Whole for i32 {
     }
 }
 
-// Entry by entry, and in `real` row by row: arrays' `map` requires that an iterator over three of T fits in memory, which
-// of any T is not said.
+// Entry by entry, and in `real` row by row: arrays' `map` requires that three of T fit in memory, not known of every T.
 fn real_row<T: Whole>(r: [T; 3]) -> [f64; 3]
     ensures { result ≡ real_row T.real T.outside r }
 {

@@ -1,5 +1,6 @@
 -- `transform_by`: a row of 16 bits times a matrix of 8 fits 32.
 use mathlib.Core.Path.{◌≡◌, sym, subst}
+use borrow.Author.Rules.{rules}
 use mir.Syntax.{w8, w16}
 use mir.Val.{SFits}
 use Prim.Native.Nat.{ℕ}
@@ -20,12 +21,18 @@ module _ {i r a b p : Matrix} (d : a ≡ i) (e : b ≡ r) (f : p ≡ mul_m a b) 
 
 pub narrow_row-r0-requires : goal.narrow_row-r0-requires
 narrow_row-r0-requires c =
-    small (same_entries c.args.i c.wider.result c.wider.ensures) c.widened.ensures c.times.ensures (good_entry w16 c.args.i c.well_formed.0) (good_entry w8 c.args.r c.well_formed.1.1.0) 0
+    let i = same_entries c.args.i c.wider.result c.wider.ensures in
+    small i c.widened.ensures c.times.ensures (good_entry w16 c.args.i c.well_formed.0) (good_entry w8 c.args.r c.well_formed.1.1.0) 0
 
 pub narrow_row-r1-requires : goal.narrow_row-r1-requires
 narrow_row-r1-requires c =
-    small (same_entries c.args.i c.wider.result c.wider.ensures) c.widened.ensures c.times.ensures (good_entry w16 c.args.i c.well_formed.0) (good_entry w8 c.args.r c.well_formed.1.1.0) 1
+    let i = same_entries c.args.i c.wider.result c.wider.ensures in
+    small i c.widened.ensures c.times.ensures (good_entry w16 c.args.i c.well_formed.0) (good_entry w8 c.args.r c.well_formed.1.1.0) 1
 
 pub narrow_row-r2-requires : goal.narrow_row-r2-requires
 narrow_row-r2-requires c =
-    small (same_entries c.args.i c.wider.result c.wider.ensures) c.widened.ensures c.times.ensures (good_entry w16 c.args.i c.well_formed.0) (good_entry w8 c.args.r c.well_formed.1.1.0) 2
+    let i = same_entries c.args.i c.wider.result c.wider.ensures in
+    small i c.widened.ensures c.times.ensures (good_entry w16 c.args.i c.well_formed.0) (good_entry w8 c.args.r c.well_formed.1.1.0) 2
+
+pub returns : goal.returns
+returns c = let i = same_entries c.args.i c.wider.result c.wider.ensures in search rules
