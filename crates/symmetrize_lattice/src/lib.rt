@@ -133,7 +133,8 @@ impl GivenLattice<'_> {
         if !self.good_determinants() {
             return Err(Refusal::Determinant);
         }
-        symmetrized(self.conventional_basis(), self.rotations).ok_or(Refusal::Lattice)
+        let old = self.conventional_basis();
+        symmetrized(old, self.rotations).ok_or(Refusal::Lattice)
     }
 }
 

@@ -63,5 +63,5 @@ returns-then-not-good_determinants c =
 pub returns : goal.returns
 returns c =
     let g = c.args.self.now in
-    let last = c.ok_or.ensures.value ∙ ap (λ (o : Option RealMatrix). ok_or o Lattice) (c.symmetrized.ensures ∙ ap (λ (m : RealMatrix). symmetrized m g.rotations.now) c.conventional_basis.ensures) in
+    let last = c.ok_or.ensures.value ∙ ap (λ (o : Option RealMatrix). ok_or o Lattice) (c.symmetrized.ensures ∙ ap (λ (m : RealMatrix). symmetrized m g.rotations.now) c.conventional_basis-old.ensures) in
     by_last g (past₄ (goal.at.returns c).Else-not-good_determinants) c.ok_or.result last
