@@ -1,12 +1,15 @@
 -- What the diagonalisation says of its matrix, and what is known once the points are not refused.
-use Rattle.std.proofs.Common.{◌≡◌, ℕ, ◌<◌, ◌≤◌, Bool, true, false, not, T, eqb, ltb, ◌⊎◌, List, ℤ, Result, Ok, Err, sym, refl, ap, ◌∙◌, subst, inr, ⊎_elim, arith}
+use Rattle.std.proofs.Common.{◌≡◌, ℕ, ◌<◌, ◌≤◌, Bool, true, false, not, T, eqb, ltb, ◌⊎◌, List, ℤ, Result, Ok, Err}
+use Rattle.std.proofs.Common.{sym, refl, ap, ◌∙◌, subst, inr, ⊎_elim, arith}
 use Rattle.definitions.specs.declared.Refusal.{Refusal}
 use Rattle.definitions.specs.declared.Refusal.TheVariants.{Diagonalisation}
 use Rattle.definitions.specs.Lists.{any}
 use Rattle.definitions.specs.Matrix.{Matrix}
-use Rattle.definitions.specs.Refusal.{Verdict, number, accepted, refused, outcome, ◌when◌, buffer, upto, precedence, Applies, Returns, Checked}
+use Rattle.definitions.specs.Refusal.{Verdict, number, accepted, refused, outcome, ◌when◌, buffer, upto, precedence}
+use Rattle.definitions.specs.Refusal.{Applies, Returns, Checked}
 use Rattle.definitions.specs.Snf.{State, Run, Leaves, diagonal}
-use Rattle.definitions.specs.Calls.{snf_conditions, IsSnf, SnfPromise, points_conditions, centring_conditions, FactorsPromise}
+use Rattle.definitions.specs.Calls.{snf_conditions, IsSnf, SnfPromise, points_conditions, centring_conditions}
+use Rattle.definitions.specs.Calls.{FactorsPromise}
 use Rattle.definitions.specs.Limits.{in_range, bad_copies, copies, most_copies, shorter_than}
 use Rattle.math_matrix.specs.Laws.{Three}
 use Rattle.math_snf.specs.declared.SmithForm.{SmithForm}
@@ -41,7 +44,9 @@ module _ (r : Refusal) where
       by false false f n x = absurd x
 
 -- past the number of copies, what `snf` returns
-pub diagonalised : (c : Matrix) (r : Result SmithForm Refusal) → in_range c ≡ true → bad_copies c ≡ false → SnfPromise c (outcome state_of r) → Diagonalised c r
+pub diagonalised :
+    (c : Matrix) (r : Result SmithForm Refusal) → in_range c ≡ true → bad_copies c ≡ false → SnfPromise c (outcome state_of r) →
+    Diagonalised c r
 unfolding Returns
 diagonalised c (Ok s) e b h = (b, snf_accepts c (checked_in (snf_conditions c) (IsSnf c) state_of (Ok s) h), h.1)
 diagonalised c (Err k) e b h =
@@ -50,7 +55,9 @@ diagonalised c (Err k) e b h =
 -- ---- the verdict on the points
 
 -- from 1 to 64 copies, for which there is room: so many points
-pub ready_of : (c : Matrix) (room : ℕ) → (0 < copies c) × (copies c ≤ 64) × (copies c ≤ room) → Three c → (s : State) → IsSnf c s → Ready s.d room
+pub ready_of :
+    (c : Matrix) (room : ℕ) → (0 < copies c) × (copies c ≤ 64) × (copies c ≤ room) → Three c →
+    (s : State) → IsSnf c s → Ready s.d room
 ready_of c room f h s e = subst (λ (t : State). Ready t.d room) e.1 run
   where
     run : Ready e.0.third.d room
@@ -59,7 +66,8 @@ ready_of c room f h s e = subst (λ (t : State). Ready t.d room) e.1 run
         let n = product e.0 h in
         record { some = omega arith; few = omega arith; fits = omega arith }
 
-pub ready : (c : Matrix) (room : ℕ) → Checked (points_conditions c room) (Ok tt) → Three c → (s : State) → IsSnf c s → Ready s.d room
+pub ready :
+    (c : Matrix) (room : ℕ) → Checked (points_conditions c room) (Ok tt) → Three c → (s : State) → IsSnf c s → Ready s.d room
 ready c room e = ready_of c room (points_facts c room e)
 
 -- ---- the invariant factors
@@ -72,13 +80,18 @@ centring_checked c v =
     (λ past h. (past_before buffer (points_conditions c most_copies) past).1.0 tt (so (or_right (eqb (copies c) 0) (true_of (ltb most_copies (copies c)) h))))
 
 module _ (c : Matrix) where
-  pub factors_accepted : (t : State) (out : List ℤ) → Returns (points_conditions c most_copies) (IsSnf c) (accepted t) → out ≡ diagonal t.d → FactorsPromise c (Ok out)
+  pub factors_accepted :
+      (t : State) (out : List ℤ) → Returns (points_conditions c most_copies) (IsSnf c) (accepted t) → out ≡ diagonal t.d →
+      FactorsPromise c (Ok out)
   unfolding Returns Checked
   factors_accepted t out (e, ended) f =
-      accepted_with (centring_conditions c) (λ fs. (r : Run c) × (fs ≡ diagonal r.third.d)) out (centring_checked c (Ok tt) (e, tt))
+      accepted_with (centring_conditions c) (λ fs. (r : Run c) × (fs ≡ diagonal r.third.d)) out
+      (centring_checked c (Ok tt) (e, tt))
       (ended.0, f ∙ ap (λ (s : State). diagonal s.d) (sym ended.1))
 
-  pub factors_refused : (r : Refusal) → Returns (points_conditions c most_copies) (IsSnf c) (refused (number r)) → FactorsPromise c (Err r)
+  pub factors_refused :
+      (r : Refusal) → Returns (points_conditions c most_copies) (IsSnf c) (refused (number r)) → FactorsPromise c (Err r)
   unfolding Returns Checked
   factors_refused r e =
-      refused_with_lem (centring_conditions c) (λ fs. (s : Run c) × (fs ≡ diagonal s.third.d)) r (centring_checked c (Err r) e)
+      refused_with_lem (centring_conditions c) (λ fs. (s : Run c) × (fs ≡ diagonal s.third.d)) r
+      (centring_checked c (Err r) e)

@@ -1,5 +1,6 @@
 -- What the lists of copies come to: the step, and the call that finds the points.
-use Rattle.std.proofs.Common.{◌≡◌, ℕ, ◌-◌, Bool, true, false, cond, List, [], ◌∷◌, ◌++◌, map, length, take, replicate, ℤ, pos, sym, refl, ap, ◌∙◌, subst, take_at}
+use Rattle.std.proofs.Common.{◌≡◌, ℕ, ◌-◌, Bool, true, false, cond, List, [], ◌∷◌, ◌++◌, map}
+use Rattle.std.proofs.Common.{length, take, replicate, ℤ, pos, sym, refl, ap, ◌∙◌, subst, take_at}
 use mathlib.Core.List.{map-map, map-append}
 use lib.ListN.{length-map}
 use lib.Ieee.{Float}
@@ -115,13 +116,16 @@ module _ (c : Matrix) (es : List ℤ) (ps : List (List Float)) (entry : ListingC
         subst (λ (m : ℕ). listable (length ps) (length es) m (listing_rooms entry) ≡ true) (sym count)
         (can_list (length ps) (length es) (copies c) entry facts.sites facts.alike facts.few facts.room)
 
-    pub keep-accepted : (exit : ListingCells) → CopiesListed c (points s) es ps entry exit → ListPromise c es ps entry exit (Ok tt)
+    pub keep-accepted :
+        (exit : ListingCells) → CopiesListed c (points s) es ps entry exit → ListPromise c es ps entry exit (Ok tt)
     keep-accepted exit h =
         promise_accepted conditions (IsListing c es ps) (HoldsListing entry exit) (HoldsListing entry exit nothing_listed)
         (listing_of es (map position_from ps) is_snf.0) checked (is_snf.0, refl)
         (subst (HoldsListing entry exit) same (subst (Left c (points s) es ps entry exit) can_be h))
 
-  pub keep_refused : (r : Refusal) (exit : ListingCells) → Ended (refused (number r)) → HoldsListing entry exit nothing_listed → ListPromise c es ps entry exit (Err r)
+  pub keep_refused :
+      (r : Refusal) (exit : ListingCells) → Ended (refused (number r)) → HoldsListing entry exit nothing_listed →
+      ListPromise c es ps entry exit (Err r)
   unfolding Returns Checked
   keep_refused r exit e h =
       promise_refused conditions (IsListing c es ps) (HoldsListing entry exit) (HoldsListing entry exit nothing_listed) r e h

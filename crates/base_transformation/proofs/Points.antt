@@ -1,5 +1,6 @@
 -- Which point stands at the place k, that the digits of k can be computed, and what the list is in the end.
-use Rattle.std.proofs.Common.{◌≡◌, ℕ, zero, suc, ◌*◌, ◌/◌, ◌%◌, ◌<◌, ◌≤◌, List, [], ◌∷◌, ◌++◌, map, length, get_or, drop, ℤ, pos, nat_abs, sym, ap, ◌∙◌, arith}
+use Rattle.std.proofs.Common.{◌≡◌, ℕ, zero, suc, ◌*◌, ◌/◌, ◌%◌, ◌<◌, ◌≤◌}
+use Rattle.std.proofs.Common.{List, [], ◌∷◌, ◌++◌, map, length, get_or, drop, ℤ, pos, nat_abs, sym, ap, ◌∙◌, arith}
 use lib.ListN.{length-map}
 use Rattle.std.specs.Prelude.{Ok}
 use Rattle.definitions.specs.Refusal.{padded}
@@ -37,7 +38,9 @@ factors a b c k h =
       omega (arith, less_by a (b * c) (positive b c a k w)),
     )
 
-pub points-lent : (c : Matrix) (s : State) (entry exit : List (List ℤ)) → IsSnf c s → exit ≡ padded zero_point (points s) (length entry) → PointsLent c entry exit (Ok tt)
+pub points-lent :
+    (c : Matrix) (s : State) (entry exit : List (List ℤ)) → IsSnf c s → exit ≡ padded zero_point (points s) (length entry) →
+    PointsLent c entry exit (Ok tt)
 points-lent c s entry exit e f =
     (e.0, f ∙ ap (λ (t : State). padded zero_point (points t) (length entry)) (sym e.1))
 

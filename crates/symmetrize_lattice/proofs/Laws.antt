@@ -5,7 +5,8 @@ use mathlib.Core.List.{List}
 use mathlib.Core.Option as Math
 use lib.Ieee.{eq}
 use Rattle.laws.specs.Tests.{without, so, not_so}
-use Rattle.laws.specs.Verdicts.{HoldsAt, Passed, pass, found_at_lem, found_none, refuse, accept, verdict_of, accepted_with, refused_with_lem}
+use Rattle.laws.specs.Verdicts.{HoldsAt, Passed, pass, found_at_lem, found_none, refuse, accept, verdict_of}
+use Rattle.laws.specs.Verdicts.{accepted_with, refused_with_lem}
 use Rattle.definitions.specs.declared.Bases.{Bases}
 use Rattle.definitions.specs.declared.Refusal.{Refusal}
 use Rattle.definitions.specs.declared.Refusal.TheVariants.{Lattice}
@@ -14,7 +15,8 @@ use Rattle.definitions.specs.Refusal.{Returns, outcome}
 use Rattle.definitions.specs.Calls.{LatticePromise}
 use Rattle.definitions.specs.Matrix.{Matrix}
 use Rattle.definitions.specs.Real.{RealMatrix, zero_f, at_f, det_f, mul_f, real, inverse_of_c, is_finite, cholesky}
-use Rattle.definitions.specs.Symmetrization.{new_basis, mean_metric, factor_fails, basis_or, lattice_fails, symmetrized_basis, deformation, new_of}
+use Rattle.definitions.specs.Symmetrization.{new_basis, mean_metric, factor_fails, basis_or, lattice_fails}
+use Rattle.definitions.specs.Symmetrization.{symmetrized_basis, deformation, new_of}
 use Rattle.math_real.specs.Rows.{all_finite_lem}
 use Rattle.std.specs.Prelude.{Option, None, Some, Result, Ok, Err}
 use Rattle.std.specs.Option.{ok_or}
@@ -71,7 +73,9 @@ module _ (g : GivenLattice) where
   Told r = Returns (conditions g) (IsNew g) (outcome (λ m. m) r)
 
   -- the last test: refused with 12, or the new basis
-  pub by_last : Passed (conditions g) 4 → (r : Result RealMatrix Refusal) → r ≡ ok_or (symmetrized (conventional_basis g) g.rotations.now) Lattice → Told r
+  pub by_last :
+      Passed (conditions g) 4 → (r : Result RealMatrix Refusal) →
+      r ≡ ok_or (symmetrized (conventional_basis g) g.rotations.now) Lattice → Told r
   unfolding verdict_of found_at_lem found_none HoldsAt
   by_last p r h = at fails refl
     where
@@ -90,7 +94,9 @@ module _ (g : GivenLattice) where
   Promised = LatticePromise g.lattice g.t g.c g.rotations.now
 
   -- the primitive and the listed basis are made of the new one
-  pub bases_accepted : (m p q : RealMatrix) → Told (Ok m) → p ≡ mul_f m (inverse_of_c g.c) → q ≡ mul_f p (real g.c) → Promised (Ok (record { conventional = m; primitive = p; listed = q }))
+  pub bases_accepted :
+      (m p q : RealMatrix) → Told (Ok m) → p ≡ mul_f m (inverse_of_c g.c) → q ≡ mul_f p (real g.c) →
+      Promised (Ok (record { conventional = m; primitive = p; listed = q }))
   unfolding Returns
   bases_accepted m p q (past, e) h i =
       let j = h ∙ ap (λ (b : RealMatrix). mul_f b (inverse_of_c g.c)) e in

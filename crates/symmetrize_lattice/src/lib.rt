@@ -85,7 +85,7 @@ fn symmetrized(old: Basis, rotations: &[Rotation]) -> Option<Basis>
     None
 }
 
-// A lattice as a caller gives it: its basis, the change T to the selected primitive basis and the centring matrix C, and
+// A lattice as a caller gives it: its basis, the change T to the selected primitive basis, the centring matrix C, and
 // the rotations of the conventional cell.
 #[derive(Clone, Copy)]
 pub struct GivenLattice<'a> {

@@ -9,7 +9,8 @@ pub returns-in_err-form : goal.returns-in_err-form
 returns-in_err-form c =
     let a = c.args in
     let k = c.in_err-form.field-0.0 in
-    passed_on (FactorsPromise a.c) k c.from_residual.result c.from_residual.ensures.1 (factors_refused a.c k c.in_err-form.ensures)
+    passed_on (FactorsPromise a.c) k c.from_residual.result c.from_residual.ensures.1
+    (factors_refused a.c k c.in_err-form.ensures)
 
 pub returns : goal.returns
 returns c = factors_accepted c.args.c (state_of c.in_ok-form.form) c.diagonal.result c.in_ok-form.ensures c.diagonal.ensures

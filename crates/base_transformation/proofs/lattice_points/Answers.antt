@@ -16,7 +16,8 @@ list_points-requires c =
     let a = c.args in
     let x = c.in-Ok in
     let m = length a.out.now in
-    ready a.c m (checked_in (points_conditions a.c m) (IsSnf a.c) state_of (Ok x.form) x.ensures) (good_three w8 a.c c.well_formed.0) (state_of x.form) x.ensures.1
+    let e = checked_in (points_conditions a.c m) (IsSnf a.c) state_of (Ok x.form) x.ensures in
+    ready a.c m e (good_three w8 a.c c.well_formed.0) (state_of x.form) x.ensures.1
 
 pub returns-in-Ok : goal.returns-in-Ok
 unfolding Returns
@@ -29,6 +30,5 @@ returns-in-Ok c =
 
 pub returns-in-Err : goal.returns-in-Err
 returns-in-Err c =
-    let a = c.args in
-    let x = c.in-Err in
-    (checked_in (points_conditions a.c (length a.out.now)) (IsSnf a.c) state_of (Err x.refusal) x.ensures, c.clear.ensures)
+    let cs = points_conditions c.args.c (length c.args.out.now) in
+    (checked_in cs (IsSnf c.args.c) state_of (Err c.in-Err.refusal) c.in-Err.ensures, c.clear.ensures)

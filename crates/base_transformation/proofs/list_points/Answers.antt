@@ -16,4 +16,9 @@ pub returns : goal.returns
 returns c =
     let a = c.args in
     let s = (goal.at.returns c).Start in
-    listed (state_of a.form) c.from-a.result c.from-b.result c.from-c.result (sized s 0 c.from-a.ensures c.unsigned_abs.ensures.value) (sized s 1 c.from-b.ensures c.unsigned_abs-2.ensures.value) (sized s 2 c.from-c.ensures c.unsigned_abs-3.ensures.value) a.out.now c.requires c.inverse-m.result c.put_points-n.result c.put_points-n.new.out c.clear.new.out c.inverse-m.ensures c.put_points-n.ensures.0 c.put_points-n.ensures.1 c.clear.ensures
+    let x = sized s 0 c.from-a.ensures c.unsigned_abs.ensures.value in
+    let y = sized s 1 c.from-b.ensures c.unsigned_abs-2.ensures.value in
+    let z = sized s 2 c.from-c.ensures c.unsigned_abs-3.ensures.value in
+    let n = c.put_points-n in
+    listed (state_of a.form) c.from-a.result c.from-b.result c.from-c.result x y z a.out.now c.requires
+    c.inverse-m.result n.result n.new.out c.clear.new.out c.inverse-m.ensures n.ensures.0 n.ensures.1 c.clear.ensures

@@ -10,7 +10,8 @@ use Rattle.definitions.specs.Lists.{any}
 use Rattle.definitions.specs.Snf.{Leaves}
 use Rattle.definitions.specs.SiteCalls.{list_conditions}
 use Rattle.laws.specs.Tests.{so, not_so}
-use Rattle.laws.specs.Verdicts.{HoldsAt, Passed, pass, found_at_lem, found_none, refuse, accept, verdict_of, accepted_with, refused_with_lem, passed_on}
+use Rattle.laws.specs.Verdicts.{HoldsAt, Passed, pass, found_at_lem, found_none, refuse, accept, verdict_of}
+use Rattle.laws.specs.Verdicts.{accepted_with, refused_with_lem, passed_on}
 use Rattle.math_snf.specs.Step.{state_of}
 use Rattle.base_transformation.specs.Answers.{Diagonalised}
 use Rattle.base_transformation.proofs.cell.diagonalise_for.Goals as goal
@@ -88,15 +89,15 @@ pub returns-then-not-in_range : goal.returns-then-not-in_range
 unfolding verdict_of found_at_lem HoldsAt
 returns-then-not-in_range c =
     let p = past₁ (goal.at.returns-then-not-in_range c).Else-bad_counts in
-    refused_with_lem _ _ MatrixEntry
-    (refuse _ 1 p (so (ap not (sym c.in_range.ensures) ∙ (ap not c.if-not-in_range.true))) (Err MatrixEntry) refl)
+    let h = ap not (sym c.in_range.ensures ∙ c.if-not-in_range.true) in
+    refused_with_lem _ _ MatrixEntry (refuse _ 1 p (so h) (Err MatrixEntry) refl)
 
 pub returns-then-not-all_cells_within : goal.returns-then-not-all_cells_within
 unfolding verdict_of found_at_lem HoldsAt
 returns-then-not-all_cells_within c =
     let p = past₂ (goal.at.returns-then-not-all_cells_within c).Else-not-in_range in
-    refused_with_lem _ _ FloatRange
-    (refuse _ 2 p (so (ap not (sym c.all_cells_within.ensures) ∙ (ap not c.if-not-all_cells_within.true))) (Err FloatRange) refl)
+    let h = ap not (sym c.all_cells_within.ensures ∙ c.if-not-all_cells_within.true) in
+    refused_with_lem _ _ FloatRange (refuse _ 2 p (so h) (Err FloatRange) refl)
 
 pub returns-in_err-form : goal.returns-in_err-form
 returns-in_err-form c =
@@ -111,22 +112,26 @@ unfolding verdict_of found_at_lem HoldsAt
 returns-then-listed-gt-MOST_LISTED c =
     let p = (goal.at.returns-then-listed-gt-MOST_LISTED c).Else-not-all_cells_within in
     let e = c.in_ok-form.ensures in
-    refused_with_lem _ _ ListedSites
-    (refuse _ 5 (past₅ p e.0 e.1 c.copies.ensures) (so (sym (many p e.0 e.1 c.copies.ensures) ∙ lt-ltb _ _ c.if-listed-gt-MOST_LISTED.true)) (Err ListedSites) refl)
+    let n = c.copies.ensures in
+    let h = sym (many p e.0 e.1 n) ∙ lt-ltb _ _ c.if-listed-gt-MOST_LISTED.true in
+    refused_with_lem _ _ ListedSites (refuse _ 5 (past₅ p e.0 e.1 n) (so h) (Err ListedSites) refl)
 
 pub returns-then-lacks_room : goal.returns-then-lacks_room
 unfolding verdict_of found_at_lem HoldsAt
 returns-then-lacks_room c =
     let p = (goal.at.returns-then-lacks_room c).Else-not-all_cells_within in
     let e = c.in_ok-form.ensures in
-    refused_with_lem _ _ Buffer
-    (refuse _ 6 (past₆ p e.0 e.1 c.copies.ensures (le-ltb _ _ c.if-listed-gt-MOST_LISTED.false)) (so (sym (tight p e.0 e.1 c.copies.ensures) ∙ sym c.lacks_room.ensures ∙ c.if-lacks_room.true)) (Err Buffer) refl)
+    let n = c.copies.ensures in
+    let few = le-ltb _ _ c.if-listed-gt-MOST_LISTED.false in
+    let h = sym (tight p e.0 e.1 n) ∙ sym c.lacks_room.ensures ∙ c.if-lacks_room.true in
+    refused_with_lem _ _ Buffer (refuse _ 6 (past₆ p e.0 e.1 n few) (so h) (Err Buffer) refl)
 
 pub returns : goal.returns
 unfolding verdict_of found_none HoldsAt
 returns c =
     let p = (goal.at.returns c).Else-not-all_cells_within in
     let e = c.in_ok-form.ensures in
-    accepted_with _ _ _
-    (accept _ (pass (conditions (start₃ p)) 6 (past₆ p e.0 e.1 c.copies.ensures (le-ltb _ _ c.if-listed-gt-MOST_LISTED.false)) (not_so (sym (tight p e.0 e.1 c.copies.ensures) ∙ sym c.lacks_room.ensures ∙ c.if-lacks_room.false))) refl)
-    e.2
+    let n = c.copies.ensures in
+    let few = le-ltb _ _ c.if-listed-gt-MOST_LISTED.false in
+    let h = sym (tight p e.0 e.1 n) ∙ sym c.lacks_room.ensures ∙ c.if-lacks_room.false in
+    accepted_with _ _ _ (accept _ (pass (conditions (start₃ p)) 6 (past₆ p e.0 e.1 n few) (not_so h)) refl) e.2

@@ -10,7 +10,12 @@ use Rattle.symmetrize_lattice.specs.Given.{conditions}
 use Rattle.symmetrize_lattice.specs.Lattice.{symmetrized}
 use Rattle.symmetrize_lattice.proofs.Laws.{by_last}
 use Rattle.symmetrize_lattice.proofs.GivenLattice.symmetrized_basis.Goals as goal
-use Rattle.symmetrize_lattice.proofs.GivenLattice.symmetrized_basis.Goals.{Else-not-is_some_count, Else-not-entries_in_range, Else-not-lattice_within, Else-not-good_determinants}
+use Rattle.symmetrize_lattice.proofs.GivenLattice.symmetrized_basis.Goals.{
+  Else-not-is_some_count,
+  Else-not-entries_in_range,
+  Else-not-lattice_within,
+  Else-not-good_determinants,
+}
 
 past₁ : (c : Else-not-is_some_count) → Passed (conditions c.args.self.now) 1
 unfolding Passed HoldsAt
@@ -26,7 +31,7 @@ past₃ : (c : Else-not-lattice_within) → Passed (conditions c.args.self.now) 
 unfolding HoldsAt
 past₃ c =
     pass _ 2 (past₂ (goal.at.Else-not-lattice_within c).Else-not-entries_in_range)
-    (not_so (ap not (sym c.lattice_within.ensures) ∙ ap not c.if-not-lattice_within.false))
+    (not_so (ap not (sym c.lattice_within.ensures ∙ c.if-not-lattice_within.false)))
 
 past₄ : (c : Else-not-good_determinants) → Passed (conditions c.args.self.now) 4
 unfolding HoldsAt
@@ -37,31 +42,33 @@ past₄ c =
 pub returns-then-not-is_some_count : goal.returns-then-not-is_some_count
 unfolding verdict_of found_at_lem Passed HoldsAt
 returns-then-not-is_some_count c =
-    refused_with_lem _ _ Counts (refuse _ 0 tt (so (branch_fails _ _ c.is_some_count.ensures (ap not c.if-not-is_some_count.true))) (Err Counts) refl)
+    let h = branch_fails _ _ c.is_some_count.ensures (ap not c.if-not-is_some_count.true) in
+    refused_with_lem _ _ Counts (refuse _ 0 tt (so h) (Err Counts) refl)
 
 pub returns-then-not-entries_in_range : goal.returns-then-not-entries_in_range
 unfolding verdict_of found_at_lem HoldsAt
 returns-then-not-entries_in_range c =
     let p = past₁ (goal.at.returns-then-not-entries_in_range c).Else-not-is_some_count in
-    refused_with_lem _ _ MatrixEntry
-    (refuse _ 1 p (so (branch_fails _ _ c.entries_in_range.ensures (ap not c.if-not-entries_in_range.true))) (Err MatrixEntry) refl)
+    let h = branch_fails _ _ c.entries_in_range.ensures (ap not c.if-not-entries_in_range.true) in
+    refused_with_lem _ _ MatrixEntry (refuse _ 1 p (so h) (Err MatrixEntry) refl)
 
 pub returns-then-not-lattice_within : goal.returns-then-not-lattice_within
 unfolding verdict_of found_at_lem HoldsAt
 returns-then-not-lattice_within c =
     let p = past₂ (goal.at.returns-then-not-lattice_within c).Else-not-entries_in_range in
-    refused_with_lem _ _ FloatRange
-    (refuse _ 2 p (so (ap not (sym c.lattice_within.ensures) ∙ ap not c.if-not-lattice_within.true)) (Err FloatRange) refl)
+    let h = ap not (sym c.lattice_within.ensures ∙ c.if-not-lattice_within.true) in
+    refused_with_lem _ _ FloatRange (refuse _ 2 p (so h) (Err FloatRange) refl)
 
 pub returns-then-not-good_determinants : goal.returns-then-not-good_determinants
 unfolding verdict_of found_at_lem HoldsAt
 returns-then-not-good_determinants c =
     let p = past₃ (goal.at.returns-then-not-good_determinants c).Else-not-lattice_within in
-    refused_with_lem _ _ Determinant
-    (refuse _ 3 p (so (branch_fails _ _ c.good_determinants.ensures (ap not c.if-not-good_determinants.true))) (Err Determinant) refl)
+    let h = branch_fails _ _ c.good_determinants.ensures (ap not c.if-not-good_determinants.true) in
+    refused_with_lem _ _ Determinant (refuse _ 3 p (so h) (Err Determinant) refl)
 
 pub returns : goal.returns
 returns c =
     let g = c.args.self.now in
-    let last = c.ok_or.ensures.value ∙ ap (λ (o : Option RealMatrix). ok_or o Lattice) (c.symmetrized.ensures ∙ ap (λ (m : RealMatrix). symmetrized m g.rotations.now) c.conventional_basis-old.ensures) in
-    by_last g (past₄ (goal.at.returns c).Else-not-good_determinants) c.ok_or.result last
+    let made = ap (λ (m : RealMatrix). symmetrized m g.rotations.now) c.conventional_basis-old.ensures in
+    by_last g (past₄ (goal.at.returns c).Else-not-good_determinants) c.ok_or.result
+    (c.ok_or.ensures.value ∙ ap (λ (o : Option RealMatrix). ok_or o Lattice) (c.symmetrized.ensures ∙ made))
