@@ -1,13 +1,17 @@
 -- The search from the last place down, and what it finds in the transformed rotations.
-use Prim.Native.Nat.{ℕ, zero, suc, ◌+◌, ◌<◌}
+use Prim.Native.Nat.{ℕ, zero, suc, ◌+◌, ◌-◌, ◌<◌}
 use mathlib.Core.Path.{◌≡◌, refl, sym, ap, subst, ◌∙◌}
 use mathlib.Core.Bool.{Bool, true, false}
 use mathlib.Core.List.{List, [], ◌∷◌, ◌++◌, map, reverse, reverse-append}
 use mathlib.Core.Option.{Option, none, some}
-use Rattle.std.specs.Prelude.{Option as Found, Ok, Err}
-use Rattle.std.specs.Option.{ok_or}
+use mathlib.Core.Logic.{⊎_elim}
+use denote.Param.Members.{Mut, Called}
+use Rattle.std.specs.Prelude.{Option as Found, Some, None, IfSome, IsSomeAnd, IsTrue, MatchOption, Ok, Err}
+use Rattle.std.specs.Iterator.Runs.{Run, ItemsMapToReversed, CallKeepsClosure, AllItemsGive, IsFirstToGive}
+use Rattle.std.specs.Option.{ok_or, option_map}
 use Rattle.definitions.specs.declared.Refusal.{Refusal}
 use native.Mathlib.Omega.{arith}
+use native.Mathlib.Nat.{not-suc-le-zero, le_of_suc-le-suc, eq-or-lt_of_le}
 use lib.ListN.{length, get_or, length-map}
 use Rattle.definitions.specs.Lists.{first, up_from, up_to}
 use Rattle.definitions.specs.Matrix.{Matrix}
@@ -55,19 +59,19 @@ same_first p q (suc k) h = by (p k) refl (same_first p q k (λ j l. h j (omega a
     by true e r = first_hit p k e ∙ sym (first_hit q k (sym last ∙ e))
     by false e r = first_miss p k e ∙ r ∙ sym (first_miss q k (sym last ∙ e))
 
--- ---- the loop, with k places left
+-- ---- the search, with k places left
 
 module _ (ms : List Matrix) (g : Matrix) where
-  pub last_none : last_below ms g 0 ≡ none
+  last_none : last_below ms g 0 ≡ none
   unfolding last_below first up_from
   last_none = refl
 
   module _ (k : ℕ) where
-    pub last_hit : same_matrix (get_or ms k []) g ≡ true → last_below ms g (suc k) ≡ some k
+    last_hit : same_matrix (get_or ms k []) g ≡ true → last_below ms g (suc k) ≡ some k
     unfolding last_below
     last_hit e = first_hit (λ j. same_matrix (get_or ms j []) g) k e
 
-    pub last_miss : same_matrix (get_or ms k []) g ≡ false → last_below ms g (suc k) ≡ last_below ms g k
+    last_miss : same_matrix (get_or ms k []) g ≡ false → last_below ms g (suc k) ≡ last_below ms g k
     unfolding last_below
     last_miss e = first_miss (λ j. same_matrix (get_or ms j []) g) k e
 
@@ -109,6 +113,72 @@ absent o q j r e h = by o (e ∙ ap (λ (o : Found ℕ). ok_or o r) h)
     by : (o : Option ℕ) → Err j ≡ ok_or (found o) r → (j ≡ r) × (is_none o ≡ true)
     by none e = (cc, refl)
     by (some k) e = absurd (cc)
+
+-- ---- the search by the library, which goes from the end
+
+module _ (ms : List Matrix) (g : Matrix) where
+  abbrev same_at : ℕ → Bool
+  same_at j = same_matrix (get_or ms j []) g
+
+  -- no place below k is the target's
+  last_missed : (k : ℕ) → ((j : ℕ) → j < k → same_at j ≡ false) → last_below ms g k ≡ none
+  last_missed zero h = last_none ms g
+  last_missed (suc k) h = last_miss ms g k (h k (omega arith)) ∙ last_missed k (λ j l. h j (omega arith))
+
+  -- the place i is, and none from there to k
+  last_at :
+      (k i : ℕ) → i < k → same_at i ≡ true → ((j : ℕ) → i < j → j < k → same_at j ≡ false) →
+      last_below ms g k ≡ some i
+  last_at zero i h e m = absurd (not-suc-le-zero h)
+  last_at (suc k) i h e m =
+      ⊎_elim
+      (λ q. rw q (last_hit ms g k (rw (sym q) e)))
+      (λ l. last_miss ms g k (m k l (omega arith)) ∙ last_at k i l e (λ j a b. m j a (omega arith)))
+      (eq-or-lt_of_le (le_of_suc-le-suc h))
+
+-- the value in what was found is m, and P holds of it
+item_at :
+    {A : Type 0} (v : A → Matrix) (P : A → Type 0) (o : Found A) (m : Matrix) → option_map v o ≡ Some m → IfSome o P →
+    (x : A) × (v x ≡ m) × P x
+item_at v P None m e h = absurd (cc)
+item_at v P (Some x) m e h = (x, cc, h)
+
+some_if : {A : Type 0} (P : A → Type 0) (o : Found A) → IsSomeAnd o P → IfSome o P
+some_if P None h = absurd h
+some_if P (Some x) h = h
+
+module _ {S A F : Type 0} {steps : S → Found A → S → Type 0} (p : Run steps) (v : A → Matrix) (ms : List Matrix)
+    (reversed : ItemsMapToReversed p v ms) (t : Mut F (A × Unit {0}) Bool) (f : F) (keeps : CallKeepsClosure t f)
+    (g : Matrix) (tests : (x : A) (b : Bool) → Called t f (x, tt) b f → b ≡ same_matrix (v x) g) where
+  -- the closure gave b of x
+  abbrev Gave : Bool → A → Type 0
+  Gave b x = Called t f (x, tt) b f
+
+  -- the item that is the place j
+  abbrev item : ℕ → Found A
+  item j = p.at (length ms - 1 - j)
+
+  given_at :
+      (j : ℕ) (b : Bool) → j < length ms → length ms - 1 - j < p.len → IfSome (item j) (Gave b) → same_at ms g j ≡ b
+  given_at j b h k s =
+      let (x, e, c) = item_at v (Gave b) (item j) (get_or ms j []) (reversed.2 j [] h k) s in
+      sym (tests x b c ∙ ap (λ m. same_matrix m g) e)
+
+  pub last_by_run :
+      (q : Found ℕ) → IfSome q (λ i. i < length ms) →
+      MatchOption q (IsTrue p.whole × AllItemsGive p t f false)
+      (λ i. (i + p.len ≡ length ms) × IsFirstToGive p t f true false (length ms - 1 - i)) →
+      q ≡ found (last_of ms g)
+  last_by_run None below (whole, give) =
+      let missed : (j : ℕ) → j < length ms → same_at ms g j ≡ false = λ j h.
+      given_at j false h (omega (arith, reversed.1 whole)) (give keeps (length ms - 1 - j)) in
+      sym (ap found (last_missed ms g (length ms) missed))
+  last_by_run (Some i) below (long, gave) =
+      let (hit, misses) = gave keeps in
+      let here = given_at i true below (omega arith) (some_if (Gave true) (item i) hit) in
+      let behind : (j : ℕ) → i < j → j < length ms → same_at ms g j ≡ false = λ j a b.
+      given_at j false b (omega arith) (some_if (Gave false) (item j) (misses (length ms - 1 - j) (omega arith))) in
+      sym (ap found (last_at ms g (length ms) i below here behind))
 
 -- ---- in the transformed rotations
 

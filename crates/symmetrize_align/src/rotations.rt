@@ -20,6 +20,7 @@ fn wide(r: Rotation) -> Integers
     r.map(wide_row)
 }
 
+// apart from `last_place`, whose closure has a reference: there the check does not know that the rows are of three
 fn same(a: Integers, b: Integers) -> bool
     ensures { result ≡ same_matrix a b }
 {
@@ -48,10 +49,5 @@ pub(crate) fn last_place(moved: &[Integers], target: Rotation) -> Option<usize>
     ensures { result ≡ found (last_of moved.now target) }
 {
     let wanted = wide(target);
-    for i in (0..moved.len()).rev() {
-        if same(moved[i], wanted) {
-            return Some(i);
-        }
-    }
-    None
+    moved.iter().rposition(|m| same(*m, wanted))
 }

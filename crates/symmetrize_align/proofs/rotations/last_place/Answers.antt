@@ -1,35 +1,18 @@
--- `last_place`: what is found among all is what is found among the places not yet tried.
-use Prim.Native.Nat.{suc, ◌-◌}
-use mathlib.Core.Path.{◌≡◌, sym, ap, ◌∙◌}
-use mathlib.Core.List.{[]}
-use lib.ListN.{get_or}
-use native.Mathlib.Omega.{arith}
-use Rattle.definitions.specs.Transformation.{same_matrix}
-use Rattle.symmetrize_align.specs.Aligning.{last_below, found}
-use Rattle.symmetrize_align.proofs.Search.{last_none, last_hit, last_miss}
+-- `last_place`: the library's search goes from the end.
+use mathlib.Core.Path.{subst, ◌∙◌}
+use borrow.Author.Rules.{rules}
+use Rattle.std.specs.Iterator.Runs.{ItemsMapToReversed}
+use Rattle.std.specs.Slice.Iter.{iter_rest}
+use Rattle.symmetrize_align.specs.Aligning.{last_of, found}
+use Rattle.symmetrize_align.proofs.Search.{last_by_run}
 use Rattle.symmetrize_align.proofs.rotations.last_place.Goals as goal
-
-pub returns-then-same : goal.returns-then-same
-returns-then-same c =
-    let ms = c.args.moved.now in
-    let g = c.args.target in
-    let k = c.loop-i.i - 1 in
-    let e : c.loop-i.i ≡ suc k = omega arith in
-    let here = ap (same_matrix (get_or ms k [])) (sym c.wide-wanted.ensures) ∙ sym c.same.ensures ∙ c.if-same.true in
-    sym (ap found (c.loop-i.invariant ∙ ap (last_below ms g) e ∙ last_hit ms g k here))
-
-pub loop-i-preserved : goal.loop-i-preserved
-loop-i-preserved c =
-    let ms = c.args.moved.now in
-    let g = c.args.target in
-    let k = c.loop-i.i - 1 in
-    let e : c.loop-i.i ≡ suc k = omega arith in
-    let other = ap (same_matrix (get_or ms k [])) (sym c.wide-wanted.ensures) ∙ sym c.same.ensures ∙ c.if-same.false in
-    c.loop-i.invariant ∙ ap (last_below ms g) e ∙ last_miss ms g k other
 
 pub returns : goal.returns
 returns c =
-    let ms = c.args.moved.now in
-    let g = c.args.target in
-    let e : c.loop-i.i ≡ 0 = omega arith in
-    sym (ap found (c.loop-i.invariant ∙ ap (last_below ms g) e ∙ last_none ms g))
+    let wanted = c.wide-wanted in
+    let (p, from, by) = c.rposition.ensures.runs in
+    let reversed =
+    subst (λ s. ItemsMapToReversed p (λ x. x.now) (iter_rest s)) from (c.iter.ensures.runs_back p p.seen) in
+    last_by_run p (λ x. x.now) (iter_rest c.iter.result) reversed _ _ (search rules) wanted.result
+    (λ x b h. search rules) c.rposition.result c.rposition.ensures.bound by
+    ∙ (λ i. found (last_of (c.iter.ensures.rest i) (wanted.ensures i)))
