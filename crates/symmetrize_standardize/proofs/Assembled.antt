@@ -14,24 +14,26 @@ use lib.Dec.{T}
 use Rattle.definitions.specs.declared.Refusal.TheVariants.{OrbitFit}
 use Rattle.definitions.specs.declared.Refusal.{Refusal}
 use Rattle.definitions.specs.declared.AnswerCounts.{AnswerCounts}
-use Rattle.definitions.specs.Refusal.{Checked, Holds, padded, lent_value, accepted, refused, orbit_fit, outcome, number}
+use Rattle.definitions.specs.Refusal.{Checked, Returns, Holds, padded, accepted, refused, orbit_fit, outcome, number}
 use Rattle.definitions.specs.Limits.{copies}
 use Rattle.definitions.specs.Real.{RealMatrix}
 use Rattle.definitions.specs.Lists.{each}
 use Rattle.definitions.specs.Snf.{Run, points, diagonal}
 use Rattle.definitions.specs.Job.{Job}
-use Rattle.definitions.specs.Lent.{cells_of, zero_cells, zero_point, zero_basis}
+use Rattle.definitions.specs.Lent.{cells_of, zero_cells, zero_point}
 use Rattle.definitions.specs.Transformation.{aligned}
-use Rattle.definitions.specs.Symmetrization.{primitive_positions, primitive_cell_basis, listed_cell_basis, primitive_of, listed_of}
+use Rattle.definitions.specs.Symmetrization.{primitive_positions, primitive_cell_basis, listed_cell_basis}
 use Rattle.definitions.specs.Cell.{site_mapping, listed_positions, listed_points, listed_elements}
 use Rattle.definitions.specs.Orbit.{Labels, multiplicities, orbits}
 use Rattle.definitions.specs.Wyckoff.{Space, AreSpaces, sites_of, orbit_without_fit, letters}
-use Rattle.definitions.specs.Calls.{centring_conditions, align_conditions, AlignPromise, LatticePromise, FactorsPromise}
+use Rattle.definitions.specs.Calls.{centring_conditions, align_conditions, lattice_conditions, bases_of}
+use Rattle.definitions.specs.Calls.{AlignPromise, LatticePromise, FactorsPromise}
+use Rattle.definitions.specs.declared.Bases.{Bases}
 use Rattle.definitions.specs.SiteCalls.{ListingCells, HoldsListing, listing_at, CopiesListed, LabelArguments, LetterCells}
 use Rattle.definitions.specs.SiteCalls.{SpaceCells, space_rooms, HoldsSpaces, prepare_all_conditions, PrepareAllPromise, Assigned}
 use Rattle.definitions.specs.Standardize.{Rooms, site_count, Work, answer_of, IsAnswer}
 use Rattle.definitions.specs.WholeCalls.{Given, job_from, AnswerCells, rooms_of, HoldsAnswer, nothing_answered, answer_counts, ListsPromise}
-use Rattle.laws.specs.Verdicts.{Passed, refused_with_lem, accepted_with, tells_answer, tells_number, not_both}
+use Rattle.laws.specs.Verdicts.{Passed, refused_with_lem, accepted_with, checked_in, tells_answer, tells_number, not_both}
 use Rattle.math_matrix.specs.Laws.{Three}
 use Rattle.math_snf_laws.specs.Unique.{run_unique}
 use Rattle.base_cell.specs.Grouping.{OrbitsLabelled}
@@ -39,7 +41,7 @@ use Rattle.base_cell.proofs.Tables.{length-multiplicities}
 use Rattle.base_transformation_laws.proofs.Listed.{positions_count as listed-count}
 use Rattle.symmetrize_standardize_laws.specs.Found.{positions_count}
 use Rattle.symmetrize_standardize.specs.Stages.{CellListed, assigning, label_cells, told_by, Finished, Uncleared}
-use Rattle.symmetrize_standardize.proofs.General.{promised_checked, promised_answer}
+use Rattle.symmetrize_standardize.proofs.General.{same_verdict, promised_checked, promised_answer}
 use Rattle.symmetrize_standardize.proofs.Facts.{of_elements}
 use Rattle.symmetrize_standardize.proofs.Ladder.{conditions, table_rooms, aligned_room, Right, listed_is}
 use Rattle.symmetrize_standardize.proofs.Together.{length-spaces}
@@ -86,22 +88,23 @@ module _ (x : Given) (rooms : Rooms) (p : Passed (conditions x rooms) 12) where
       (ss, are, fronts_are (length x.texts) before after ss (length-spaces x.texts ss are) held)
 
   pub bases_held :
-      (new primitive listed : RealMatrix) (v : Verdict) → LatticePromise x.lattice x.t x.c x.conventional new primitive listed v →
-      (primitive ≡ primitive_cell_basis (job_from x)) × (listed ≡ listed_cell_basis (job_from x))
-  unfolding job_from primitive_cell_basis listed_cell_basis
-  bases_held new primitive listed v h =
-      let e = lattice-accepts x rooms p v h.checked in (
-        subst (λ w. primitive ≡ lent_value zero_basis (primitive_of x.lattice x.t x.c x.conventional) w) e h.of_primitive,
-        subst (λ w. listed ≡ lent_value zero_basis (listed_of x.lattice x.t x.c x.conventional) w) e h.of_listed,
-      )
+      (b : Bases) → LatticePromise x.lattice x.t x.c x.conventional (Ok b) →
+      (b.primitive ≡ primitive_cell_basis (job_from x)) × (b.listed ≡ listed_cell_basis (job_from x))
+  unfolding job_from primitive_cell_basis listed_cell_basis Returns
+  bases_held b h = (ap (λ (a : Bases). a.primitive) h.1, ap (λ (a : Bases). a.listed) h.1)
 
-  pub factors_held : (fs : List ℤ) (v : Verdict) → FactorsPromise x.c fs v → (r : Run x.c) → fs ≡ diagonal r.third.d
-  factors_held fs v h r =
-      let Is : List ℤ → Type 0 = λ gs. (q : Run x.c) × (gs ≡ diagonal q.third.d) in
-      let checked = promised_checked (centring_conditions x.c) Is (λ gs. fs ≡ gs) (fs ≡ zero_point) v h in
-      let e = factors_accept x rooms p v checked in
-      let (gs, is, held) = promised_answer (centring_conditions x.c) Is (λ gs. fs ≡ gs) (fs ≡ zero_point) v e h in
-      held ∙ is.1 ∙ ap (λ s. diagonal s.d) (run_unique is.0 r)
+  pub factors_held : (fs : List ℤ) → FactorsPromise x.c (Ok fs) → (r : Run x.c) → fs ≡ diagonal r.third.d
+  unfolding Returns
+  factors_held fs h r = h.1.1 ∙ ap (λ s. diagonal s.d) (run_unique h.1.0 r)
+
+  -- neither is refused there
+  pub lattice_unrefused : (r : Refusal) → LatticePromise x.lattice x.t x.c x.conventional (Err r) → ⊥
+  unfolding Checked
+  lattice_unrefused r h = not_both (Err r) tt r (lattice-accepts x rooms p (Err r) h) refl
+
+  pub factors_unrefused : (r : Refusal) → FactorsPromise x.c (Err r) → ⊥
+  unfolding Checked
+  factors_unrefused r h = not_both (Err r) tt r (factors_accept x rooms p (Err r) h) refl
 
 -- ---- the verdicts of the sub-calls are right
 
@@ -109,22 +112,24 @@ pub right_of :
     (x : Given) (before after : SpaceCells) (v₁ : Verdict) → space_rooms before ≡ table_rooms x → PrepareAllPromise x.texts before after v₁ →
     (old new : List ℕ) (v₂ : Verdict) → length old ≡ aligned_room x →
     AlignPromise x.t x.rotations x.images (length x.positions) x.rotations_of_targets old new v₂ →
-    (basis primitive listed : RealMatrix) (v₃ : Verdict) →
-    LatticePromise x.lattice x.t x.c x.conventional basis primitive listed v₃ →
-    (fs : List ℤ) (v₄ : Verdict) → FactorsPromise x.c fs v₄ →
-    Right x (record { prepared = v₁; factors = v₄; aligned = v₂; lattice = v₃ })
-right_of x before after v₁ rooms₁ prepared old new v₂ room₂ alignment basis primitive listed v₃ lattice fs v₄ factors =
-    let Is : List ℤ → Type 0 = λ gs. (q : Run x.c) × (gs ≡ diagonal q.third.d) in
+    (lattice : Result Bases Refusal) → LatticePromise x.lattice x.t x.c x.conventional lattice →
+    (factors : Result (List ℤ) Refusal) → FactorsPromise x.c factors →
+    Right x (record { prepared = v₁; factors = factors; aligned = v₂; lattice = lattice })
+right_of x before after v₁ rooms₁ prepared old new v₂ room₂ alignment lattice deformed factors diagonalised =
     record {
       prepared =
-          subst (λ r. Checked (prepare_all_conditions x.texts r) v₁) rooms₁
+          subst (Checked (prepare_all_conditions x.texts (table_rooms x))) (sym (same_verdict v₁))
+          (subst (λ r. Checked (prepare_all_conditions x.texts r) v₁) rooms₁
           (promised_checked (prepare_all_conditions x.texts (space_rooms before)) (AreSpaces x.texts) (HoldsSpaces before after)
-          (HoldsSpaces before after []) v₁ prepared);
-      factors = promised_checked (centring_conditions x.c) Is (λ gs. fs ≡ gs) (fs ≡ zero_point) v₄ factors;
+          (HoldsSpaces before after []) v₁ prepared));
+      factors =
+          checked_in (centring_conditions x.c) (λ gs. (q : Run x.c) × (gs ≡ diagonal q.third.d)) (λ gs. gs) factors diagonalised;
       aligned =
-          subst (λ r. Checked (align_conditions x.t x.rotations x.images (length x.positions) x.rotations_of_targets r) v₂) room₂
-          alignment.0;
-      lattice = lattice.checked;
+          let at = align_conditions x.t x.rotations x.images (length x.positions) x.rotations_of_targets in
+          subst (Checked (at (aligned_room x))) (sym (same_verdict v₂)) (subst (λ r. Checked (at r) v₂) room₂ alignment.0);
+      lattice =
+          checked_in (lattice_conditions x.lattice x.t x.c x.conventional) (λ b. b ≡ bases_of x.lattice x.t x.c x.conventional)
+          (λ b. b) lattice deformed;
     }
 
 -- ---- the promise
@@ -303,8 +308,10 @@ module _ (x : Given) (e z : AnswerCells) (shape : Three x.c) (p : Passed (condit
       (before after : SpaceCells) (v₁ : Verdict) → space_rooms before ≡ table_rooms x → PrepareAllPromise x.texts before after v₁ →
       (old new : List ℕ) (v₂ : Verdict) → length old ≡ aligned_room x →
       AlignPromise x.t x.rotations x.images (length x.positions) x.rotations_of_targets old new v₂ →
-      (basis : RealMatrix) (v₃ : Verdict) → LatticePromise x.lattice x.t x.c x.conventional basis z.primitive_cell_basis z.listed_cell_basis v₃ →
-      (v₄ : Verdict) → FactorsPromise x.c z.factors v₄ →
+      (conventional : RealMatrix) →
+      LatticePromise x.lattice x.t x.c x.conventional
+      (Ok (record { conventional = conventional; primitive = z.primitive_cell_basis; listed = z.listed_cell_basis })) →
+      FactorsPromise x.c (Ok z.factors) →
       (is : List ℕ) → is ≡ take (length x.rotations_of_targets * length x.positions) new →
       (lent : SpaceCells) → lent ≡ fronts (length x.texts) after →
       CellListed x is
@@ -327,7 +334,7 @@ module _ (x : Given) (e z : AnswerCells) (shape : Three x.c) (p : Passed (condit
       })
       (letter_cells e) (letter_cells z) r →
       Uncleared x e z r
-  answered before after v₁ rooms₁ prepared old new v₂ room₂ alignment basis v₃ lattice v₄ factors is is_front lent lent-fronts cell r (whole, orb, told) =
+  answered before after v₁ rooms₁ prepared old new v₂ room₂ alignment conventional lattice factors is is_front lent lent-fronts cell r (whole, orb, told) =
       let rooms = rooms_of e in
       let roomy = known_roomy x rooms p in
       let same-images : is ≡ images = is_front ∙ images_of x rooms p old new v₂ room₂ alignment in
@@ -336,14 +343,16 @@ module _ (x : Given) (e z : AnswerCells) (shape : Three x.c) (p : Passed (condit
       (subst (λ l. CellListed x l
       e.primitive z.primitive (listing_cells e) (listing_cells z)) same-images cell) in
       let (ss, are, tables) = spaces_held x rooms p before after v₁ rooms₁ prepared in
-      let (pb, lb) = bases_held x rooms p basis z.primitive_cell_basis z.listed_cell_basis v₃ lattice in
+      let bases : Bases =
+      record { conventional = conventional; primitive = z.primitive_cell_basis; listed = z.listed_cell_basis } in
+      let (pb, lb) = bases_held x rooms p bases lattice in
       let labelled =
       subst (λ l. OrbitsLabelled (labelling l (site_mapping n m)) (label_cells (letter_cells e)) (label_cells (letter_cells z))) same-images
       (subst (λ ms. OrbitsLabelled (labelling is ms) (label_cells (letter_cells e)) (label_cells (letter_cells z))) (mapping_front l)
       orb.labels) in
       let (ls, labels, long, lh, mh) =
       labels_held x rooms p (label_cells (letter_cells e)) (label_cells (letter_cells z)) roomy.labels roomy.multiplicities labelled in
-      let fs = factors_held x rooms p z.factors v₄ factors l.run in
+      let fs = factors_held x rooms p z.factors factors l.run in
       let sited : length (take (n * m) z.mapping) ≡ n * m = ap length (mapping_front l) ∙ length_mapping n m in
       concluded l ss are ls labels long lh mh pb lb fs whole
       (subst (λ a. Assigned a e.letters z.letters whole)

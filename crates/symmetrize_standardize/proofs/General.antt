@@ -1,17 +1,17 @@
--- Stage by stage: a verdict by tests in the order of the conditions, and what a sub-call's verdict says of a condition.
+-- Stage by stage: a verdict by tests in the order of the conditions, and what a sub-call tells of a condition.
 use Prim.Native.Nat.{ℕ, suc}
-use mathlib.Core.Path.{◌≡◌, subst}
+use mathlib.Core.Path.{◌≡◌, refl, subst}
 use mathlib.Core.Bool.{Bool, true, false, cond}
 use mathlib.Core.List.{List}
 use mathlib.Core.Option.{some}
 use lib.Dec.{T, eqb_refl, eqb→eq}
 use Rattle.definitions.specs.Refusal.{Verdict}
-use Rattle.std.specs.Prelude.{Err, Ok}
+use Rattle.std.specs.Prelude.{Result, Err, Ok}
 use Rattle.definitions.specs.declared.Refusal.{Refusal}
 use Rattle.definitions.specs.Refusal.{Condition, Applies, Checked, accepted, refused, Returns, Promised, number}
 use Rattle.laws.specs.Order.{numbered}
 use Rattle.laws.proofs.Order.{checked_unique}
-use Rattle.laws.specs.Verdicts.{HoldsAt, Passed, pass, found_at_lem, refuse, verdict_of, tells_number, not_both}
+use Rattle.laws.specs.Verdicts.{HoldsAt, Passed, pass, found_at_lem, refuse, verdict_of, verdict_in, tells_number, not_both}
 use Rattle.symmetrize_standardize.specs.Stages.{refused_with, then_verdict}
 
 -- ---- a verdict on the way
@@ -35,18 +35,28 @@ pub until_then : (cs : List Condition) (n m : ℕ) (v w : Verdict) → Until cs 
 until_then cs n m (Ok u) w p more = more p
 until_then cs n m (Err k) w e more = e
 
--- ---- what a verdict tells
+-- ---- what a sub-call tells
+
+pub same_verdict : (v : Verdict) → verdict_in v ≡ v
+same_verdict (Ok u) = refl
+same_verdict (Err r) = refl
 
 module _ (cs : List Condition) where
-  -- it is the refusal r: its number applies
-  pub told_applies : (v : Verdict) → Checked cs v → (r : Refusal) → T (refused_with r v) → Applies cs (number r)
-  unfolding Checked Returns
-  told_applies (Ok u) e r h = absurd h
-  told_applies (Err s) e r h = subst (Applies cs) (eqb→eq (number s) (number r) h) e.0
+  module _ {A : Type 0} where
+    -- it is the refusal r: its number applies
+    pub told_applies :
+        (v : Result A Refusal) → Checked cs (verdict_in v) → (r : Refusal) → T (refused_with r v) → Applies cs (number r)
+    unfolding Checked Returns
+    told_applies (Ok a) e r h = absurd h
+    told_applies (Err s) e r h = subst (Applies cs) (eqb→eq (number s) (number r) h) e.0
 
-  -- r is the first that applies: it is the refusal r
-  pub told_first : T (numbered cs) → (v : Verdict) → Checked cs v → (r : Refusal) → Checked cs (Err r) → T (refused_with r v)
-  told_first t v e r h = subst (λ w. T (refused_with r w)) (checked_unique cs t (Err r) v h e) (eqb_refl (number r))
+    -- r is the first that applies: it is the refusal r
+    pub told_first :
+        T (numbered cs) → (v : Result A Refusal) → Checked cs (verdict_in v) → (r : Refusal) → Checked cs (Err r) →
+        T (refused_with r v)
+    told_first t (Ok a) e r h = absurd (not_both (Err r) tt r (checked_unique cs t (Err r) (Ok tt) h e) refl)
+    told_first t (Err s) e r h =
+        subst (λ w. T (refused_with {A = Unit {0}} r w)) (checked_unique cs t (Err r) (Err s) h e) (eqb_refl (number r))
 
   pub told_accepted : T (numbered cs) → (v : Verdict) → Checked cs v → Checked cs (Ok tt) → v ≡ (Ok tt)
   told_accepted t v e h = checked_unique cs t v (Ok tt) e h

@@ -29,7 +29,7 @@ use Rattle.definitions.specs.WholeCalls.{Given, job_from, unlike_lists, lists_co
 use Rattle.laws.specs.Tests.{so, not_so, off, neither, neither_left, neither_right, or_left, or_right, true_of}
 use Rattle.laws.specs.Limits.{few_entries}
 use Rattle.laws.specs.Order.{numbered}
-use Rattle.laws.specs.Verdicts.{HoldsAt, Passed, found_at_lem, refuse, verdict_of}
+use Rattle.laws.specs.Verdicts.{HoldsAt, Passed, found_at_lem, refuse, verdict_of, verdict_in}
 use Rattle.symmetrize_standardize.specs.Stages.{refused_with, list_counts, list_entries, list_floats, given_verdict}
 use Rattle.symmetrize_standardize.specs.declared.verdicts.Told.{Told}
 use Rattle.symmetrize_standardize.specs.Stages.{candidates_room, images_room, least_room, work_verdict, whole_verdict}
@@ -111,11 +111,12 @@ candidates_room_lem x w = λ i. cond (w.candidates i) 0 (length x.texts)
 
 -- their verdicts are right
 pub record Right (x : Given) (s : Told) : Type 0 where
-  pub prepared : Checked (prepare_all_conditions x.texts (table_rooms x)) s.prepared
-  pub factors : Checked (centring_conditions x.c) s.factors
+  pub prepared : Checked (prepare_all_conditions x.texts (table_rooms x)) (verdict_in s.prepared)
+  pub factors : Checked (centring_conditions x.c) (verdict_in s.factors)
   pub aligned :
-      Checked (align_conditions x.t x.rotations x.images (length x.positions) x.rotations_of_targets (aligned_room x)) s.aligned
-  pub lattice : Checked (lattice_conditions x.lattice x.t x.c x.conventional) s.lattice
+      Checked (align_conditions x.t x.rotations x.images (length x.positions) x.rotations_of_targets (aligned_room x))
+      (verdict_in s.aligned)
+  pub lattice : Checked (lattice_conditions x.lattice x.t x.c x.conventional) (verdict_in s.lattice)
 
 -- what they are past
 module _ (x : Given) (w : Within x) where

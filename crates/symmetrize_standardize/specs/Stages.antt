@@ -25,9 +25,9 @@ use Rattle.base_cell.specs.Grouping.{OrbitsLabelled}
 use Rattle.symmetrize_wyckoff.specs.Lettering.{Placed, assign_with}
 use Rattle.symmetrize_standardize.specs.declared.verdicts.Told.{Told}
 
--- the verdict is the refusal r
-abbrev pub refused_with : Refusal → Verdict → Bool
-refused_with r (Ok u) = false
+-- what is told is the refusal r
+abbrev pub refused_with : {A : Type 0} → Refusal → Result A Refusal → Bool
+refused_with r (Ok a) = false
 refused_with r (Err s) = eqb (number s) (number r)
 
 -- the second verdict, unless the first is a refusal

@@ -22,14 +22,14 @@ use base_cell::verdicts::Labelling;
 use base_transformation::cell::Listing;
 use base_transformation::invariant_factors;
 use checks::copies;
-use data_wyckoff::space::{Spaces, prepare_all};
+use data_wyckoff::space::{Space, prepare_all};
 use definitions::limits::{MOST_CANDIDATES, MOST_IMAGES};
 use definitions::{
-    AnswerCounts, Basis, Cells, Linear, Point, Position, Refusal, Rotation, SnfMatrix, Text,
+    AnswerCounts, Basis, Cells, Linear, Point, Position, Refusal, Rotation, Text,
 };
-use lent::clear;
+use lent::{Zero, clear};
 use symmetrize_align::{Operations, align_permutations};
-use symmetrize_lattice::{NO_BASES, symmetrize_lattice};
+use symmetrize_lattice::{GivenLattice, symmetrize_lattice};
 use symmetrize_wyckoff::arguments::Placed;
 
 // Most jobs have no more images, and do not pay for zeroing the others: of those given, in the call on bytes, and of
@@ -122,7 +122,7 @@ pub(crate) struct Work<'a> {
 // The letters of the listed sites: an answer, or 13.
 fn letter(
     work: &Work,
-    spaces: &Spaces,
+    spaces: &[Space],
     listing: &Listing,
     orbits: &mut Orbits,
     letters: &mut [u8],
@@ -147,11 +147,7 @@ fn letter(
         symprec: work.symprec,
         candidates: work.multiplicities,
         letters: work.letters,
-        matrices: spaces.matrices,
-        shifts: spaces.shifts,
-        ds: spaces.ds,
-        ls: spaces.ls,
-        rs: spaces.rs,
+        spaces,
     };
     orbits::label_and_letter(&labelling, &placed, orbits, letters)?;
     Ok(AnswerCounts {
@@ -169,31 +165,23 @@ fn answer_with(job: &Job, aligned: &mut [u8], answer: &mut Answer) -> Result<Ans
     ensures rooms { rooms_of (answer_cells answer.new) ≡ rooms_of (answer_cells answer.old) }
     ensures same_lists { SameAnswer answer.old answer.new }
 {
-    let mut matrices = [[[0; 3]; 3]; MOST_CANDIDATES];
-    let mut shifts = [[0.0; 3]; MOST_CANDIDATES];
-    let mut ds = [[[0; 3]; 3]; MOST_CANDIDATES];
-    let mut ls = [[[0; 3]; 3]; MOST_CANDIDATES];
-    let mut rs = [[[0; 3]; 3]; MOST_CANDIDATES];
-    let w = verdicts::candidates_room(job.texts.len());
-    let mut spaces = Spaces {
-        matrices: &mut matrices[..w],
-        shifts: &mut shifts[..w],
-        ds: &mut ds[..w],
-        ls: &mut ls[..w],
-        rs: &mut rs[..w],
-    };
-    let prepared = prepare_all(job.texts, &mut spaces);
+    let mut table = [Space::ZERO; MOST_CANDIDATES];
+    let spaces = &mut table[..verdicts::candidates_room(job.texts.len())];
+    let prepared = prepare_all(job.texts, spaces);
     let operations = Operations {
         rotations: job.rotations,
         images: job.images,
         sites: job.positions.len(),
     };
     let found = align_permutations(job.t, &operations, job.rotations_of_targets, aligned);
-    let mut bases = NO_BASES;
-    let deformed = symmetrize_lattice(job.lattice, job.t, job.c, job.conventional, &mut bases);
-    *answer.primitive_cell_basis = bases.primitive;
-    *answer.listed_cell_basis = bases.listed;
-    let diagonalised = invariant_factors(job.c, answer.factors);
+    let given = GivenLattice {
+        lattice: job.lattice,
+        t: job.t,
+        c: job.c,
+        rotations: job.conventional,
+    };
+    let deformed = symmetrize_lattice(&given);
+    let diagonalised = invariant_factors(job.c);
     let told = Told {
         prepared,
         factors: diagonalised,
@@ -201,6 +189,14 @@ fn answer_with(job: &Job, aligned: &mut [u8], answer: &mut Answer) -> Result<Ans
         lattice: deformed,
     };
     job.whole_verdict(answer.least_room(), answer.primitive.len(), &told)?;
+    // past the verdict neither is a refusal
+    let bases = deformed?;
+    let factors = diagonalised?;
+    let primitive_basis = bases.primitive;
+    let basis = bases.listed;
+    *answer.primitive_cell_basis = primitive_basis;
+    *answer.listed_cell_basis = basis;
+    *answer.factors = factors;
     let mut listing = Listing {
         positions: answer.positions,
         points: answer.points,
@@ -214,7 +210,7 @@ fn answer_with(job: &Job, aligned: &mut [u8], answer: &mut Answer) -> Result<Ans
         count: job.rotations_of_targets.len(),
         aligned,
         listed: sites * copies(job.c),
-        basis: bases.listed,
+        basis,
         symprec: job.symprec,
         multiplicities: job.multiplicities,
         letters: job.letters,
@@ -223,7 +219,7 @@ fn answer_with(job: &Job, aligned: &mut [u8], answer: &mut Answer) -> Result<Ans
         labels: answer.labels,
         multiplicities: answer.multiplicities,
     };
-    letter(&work, &spaces, &listing, &mut orbits, answer.letters)
+    letter(&work, spaces, &listing, &mut orbits, answer.letters)
 }
 
 // The same over a local list for the aligned images, short where they are few, of which only the front is lent.

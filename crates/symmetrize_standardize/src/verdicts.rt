@@ -14,7 +14,7 @@ use checks::{
     lattice_within, position_within, unimodular,
 };
 use definitions::limits::{MOST_CANDIDATES, MOST_LISTED, MOST_SITES};
-use definitions::{Linear, Refusal, Verdict};
+use definitions::{Bases, Linear, Refusal, Verdict};
 
 // ---- how much is lent to the sub-calls: nothing past the limits, where 2 refuses whatever they tell
 
@@ -45,16 +45,16 @@ pub(crate) fn images_room(sites: usize, targets: usize) -> usize
 #[derive(Clone, Copy)]
 pub(crate) struct Told {
     pub(crate) prepared: Verdict,
-    pub(crate) factors: Verdict,
+    pub(crate) factors: Result<[i16; 3], Refusal>,
     pub(crate) aligned: Verdict,
-    pub(crate) lattice: Verdict,
+    pub(crate) lattice: Result<Bases, Refusal>,
 }
 
-fn refused_with(v: Verdict, refusal: Refusal) -> bool
-    ensures { result ≡ refused_with refusal v }
+fn refused_with<T: Copy>(told: Result<T, Refusal>, refusal: Refusal) -> bool
+    ensures { result ≡ refused_with refusal told }
 {
-    match v {
-        Ok(()) => false,
+    match told {
+        Ok(_) => false,
         Err(given) => given == refusal,
     }
 }

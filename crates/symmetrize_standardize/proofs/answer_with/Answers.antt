@@ -7,25 +7,26 @@ use lib.ListN.{length, take, replicate}
 use lib.Seq.{length-take-le, take_all}
 use Rattle.std.specs.Prelude.{Ok}
 use Rattle.definitions.specs.Refusal.{Verdict}
-use Rattle.definitions.specs.Lent.{zero_cells, zero_matrix}
+use Rattle.definitions.specs.Calls.{LatticePromise, FactorsPromise}
 use Rattle.definitions.specs.Limits.{copies}
-use Rattle.definitions.specs.SiteCalls.{SpaceCells, space_rooms}
+use Rattle.definitions.specs.SiteCalls.{space_rooms}
 use Rattle.definitions.specs.WholeCalls.{Given, AnswerCells, rooms_of}
 use Rattle.laws.specs.Verdicts.{Passed, passed_on}
 use borrow.Author.Rules.{rules}
-use Rattle.data_wyckoff.specs.Spaces.{lists}
+use Rattle.data_wyckoff.specs.Spaces.{lists, zero_space}
+use Rattle.data_wyckoff.specs.declared.space.Space as code
 use Rattle.base_transformation.specs.Runs.{held}
 use Rattle.base_cell.specs.Given.{orbit_cells}
 use Rattle.symmetrize_wyckoff.specs.Given.{letter_cells}
 use Rattle.symmetrize_standardize.specs.declared.verdicts.Told.{Told}
 use Rattle.symmetrize_standardize.specs.Given.{given_by, answer_cells}
-use Rattle.symmetrize_standardize.specs.Stages.{Uncleared, least_room, whole_verdict}
+use Rattle.symmetrize_standardize.specs.Stages.{Uncleared, candidates_room, least_room, whole_verdict}
 use Rattle.symmetrize_standardize.proofs.General.{Until}
 use Rattle.symmetrize_standardize.proofs.Ladder.{conditions, table_rooms, few_candidates, Right, whole_until}
 use Rattle.symmetrize_standardize.proofs.Parts.{listed-word, fits_kept}
-use Rattle.symmetrize_standardize.proofs.Choices.{fronts}
+use Rattle.symmetrize_standardize.proofs.Choices.{fronts, rooms_are, fronts_of_all}
 use Rattle.symmetrize_standardize.proofs.Past.{known_copies, known_sites, known_entries, known_candidates, known_roomy}
-use Rattle.symmetrize_standardize.proofs.Assembled.{right_of, refused_uncleared, finished_by, answered, given_back}
+use Rattle.symmetrize_standardize.proofs.Assembled.{right_of, lattice_unrefused, factors_unrefused, refused_uncleared, finished_by, answered, given_back}
 use Rattle.symmetrize_standardize.proofs.answer_with.Goals as goal
 use Rattle.symmetrize_standardize.proofs.answer_with.Goals.{After-whole_verdict}
 
@@ -39,34 +40,24 @@ lent w = answer_cells w.args.answer.now
 
 -- ---- the sub-calls before the verdict
 
--- the fronts of the tables that are lent
-few : (w : After-whole_verdict) → w.candidates_room-w.result ≤ 64
-few w = subst (λ n. n ≤ 64) (sym w.candidates_room-w.ensures) (few_candidates (length w.args.job.now.texts.now))
+-- the table and the images as they are lent, and as they come back
+abbrev no_spaces : After-whole_verdict → List code.Space
+no_spaces w = take w.candidates_room.result (replicate 64 zero_space)
 
--- the tables and the images as they are lent, and as they come back
-abbrev no_spaces : After-whole_verdict → SpaceCells
-no_spaces w =
-    let k = w.candidates_room-w.result in
-    record {
-      matrices = take k (replicate 64 zero_matrix);
-      shifts = take k (replicate 64 zero_cells);
-      ds = take k (replicate 64 zero_matrix);
-      ls = take k (replicate 64 zero_matrix);
-      rs = take k (replicate 64 zero_matrix);
-    }
+no_spaces_long : (w : After-whole_verdict) → length (no_spaces w) ≡ candidates_room (length (given w).texts)
+no_spaces_long w =
+    let few : w.candidates_room.result ≤ 64 =
+    subst (λ n. n ≤ 64) (sym w.candidates_room.ensures) (few_candidates (length w.args.job.now.texts.now)) in
+    length-take-le _ (replicate 64 zero_space) few ∙ w.candidates_room.ensures
 
-abbrev spaces : After-whole_verdict → SpaceCells
-spaces w = lists w.prepare_all-prepared.new.spaces
+abbrev spaces : After-whole_verdict → List code.Space
+spaces w = w.prepare_all-prepared.new.spaces
 
 abbrev images : After-whole_verdict → List ℕ
 images w = w.align_permutations-found.new.out
 
-table_rooms_lem : (w : After-whole_verdict) → space_rooms (no_spaces w) ≡ table_rooms (given w)
-table_rooms_lem w =
-    let e = w.candidates_room-w.ensures in
-    let m = length-take-le _ (replicate 64 zero_matrix) (few w) ∙ e in
-    let s = length-take-le _ (replicate 64 zero_cells) (few w) ∙ e in
-    λ i. m i ∷ s i ∷ m i ∷ m i ∷ m i ∷ []
+table_rooms_lem : (w : After-whole_verdict) → space_rooms (lists (no_spaces w)) ≡ table_rooms (given w)
+table_rooms_lem w = rooms_are (no_spaces w) _ (no_spaces_long w)
 
 abbrev told : After-whole_verdict → Told
 told w =
@@ -79,11 +70,10 @@ told w =
 
 right : (w : After-whole_verdict) → Right (given w) (told w)
 right w =
-    let bases = w.symmetrize_lattice-deformed.new.bases in
-    right_of (given w) (no_spaces w) (spaces w) w.prepare_all-prepared.result (table_rooms_lem w) w.prepare_all-prepared.ensures.prepared
+    right_of (given w) (lists (no_spaces w)) (lists (spaces w)) w.prepare_all-prepared.result (table_rooms_lem w) w.prepare_all-prepared.ensures.prepared
     w.args.aligned.now (images w) w.align_permutations-found.result w.requires w.align_permutations-found.ensures
-    bases.conventional bases.primitive bases.listed w.symmetrize_lattice-deformed.result w.symmetrize_lattice-deformed.ensures
-    w.invariant_factors-diagonalised.new.out w.invariant_factors-diagonalised.result w.invariant_factors-diagonalised.ensures
+    w.symmetrize_lattice-deformed.result w.symmetrize_lattice-deformed.ensures
+    w.invariant_factors-diagonalised.result w.invariant_factors-diagonalised.ensures
 
 -- ---- the verdict
 
@@ -109,6 +99,27 @@ returns-in_err-whole_verdict-clause-uncleared c =
 
 passed : (w : After-whole_verdict) → Ok tt ≡ whole_verdict (given w) w.least_room.result (length w.args.answer.now.primitive.now) (told w) → Passed (conditions (given w) (rooms_of (lent w))) 12
 passed w e = until w (Ok tt) e
+
+-- neither is refused
+pub returns-in_err-bases-clause-uncleared : goal.returns-in_err-bases-clause-uncleared
+returns-in_err-bases-clause-uncleared c =
+    let w = (goal.at.returns-in_err-bases-clause-uncleared c).After-whole_verdict in
+    let x = given w in
+    let r = c.in_err-bases.field-0.0 in
+    let p = passed w c.in_ok-whole_verdict.ensures in
+    absurd
+    (lattice_unrefused x (rooms_of (lent w)) p r
+    (subst (LatticePromise x.lattice x.t x.c x.conventional) c.in_err-bases.was w.symmetrize_lattice-deformed.ensures))
+
+pub returns-in_err-factors-clause-uncleared : goal.returns-in_err-factors-clause-uncleared
+returns-in_err-factors-clause-uncleared c =
+    let w = (goal.at.returns-in_err-factors-clause-uncleared c).After-whole_verdict in
+    let x = given w in
+    let r = c.in_err-factors.field-0.0 in
+    let p = passed w c.in_ok-whole_verdict.ensures in
+    absurd
+    (factors_unrefused x (rooms_of (lent w)) p r
+    (subst (FactorsPromise x.c) c.in_err-factors.was w.invariant_factors-diagonalised.ensures))
 
 pub list_cell-requires : goal.list_cell-requires
 list_cell-requires c =
@@ -156,29 +167,19 @@ images_front w p =
     omega (arith, w.align_permutations-found.auto.out ∙ w.requires ∙ known_entries x (rooms_of (lent w)) p) in
     sym (take_all _ (images w) long)
 
-spaces-fronts : (w : After-whole_verdict) → Passed (conditions (given w) (rooms_of (lent w))) 12 → spaces w ≡ fronts (length (given w).texts) (spaces w)
+spaces-fronts :
+    (w : After-whole_verdict) → Passed (conditions (given w) (rooms_of (lent w))) 12 →
+    lists (spaces w) ≡ fronts (length (given w).texts) (lists (spaces w))
 spaces-fronts w p =
-    let x = given w in
-    let k = w.candidates_room-w.result in
-    let e : k ≡ length x.texts = w.candidates_room-w.ensures ∙ known_candidates x (rooms_of (lent w)) p in
-    let kept = w.prepare_all-prepared.ensures.rooms in
-    let m = length-take-le _ (replicate 64 zero_matrix) (few w) ∙ e in
-    let s = length-take-le _ (replicate 64 zero_cells) (few w) ∙ e in
-    λ i.
-    record {
-      matrices = sym (take_all (length x.texts) (spaces w).matrices (omega (arith, kept.matrices ∙ m))) i;
-      shifts = sym (take_all (length x.texts) (spaces w).shifts (omega (arith, kept.shifts ∙ s))) i;
-      ds = sym (take_all (length x.texts) (spaces w).ds (omega (arith, kept.ds ∙ m))) i;
-      ls = sym (take_all (length x.texts) (spaces w).ls (omega (arith, kept.ls ∙ m))) i;
-      rs = sym (take_all (length x.texts) (spaces w).rs (omega (arith, kept.rs ∙ m))) i;
-    }
+    fronts_of_all (spaces w) (length (given w).texts)
+    (w.prepare_all-prepared.ensures.len ∙ no_spaces_long w ∙ known_candidates (given w) (rooms_of (lent w)) p)
 
 pub returns-clause-uncleared : goal.returns-clause-uncleared
 returns-clause-uncleared c =
     let w = (goal.at.returns-clause-uncleared c).After-whole_verdict in
     let x = given w in
     let p = passed w c.in_ok-whole_verdict.ensures in
-    let bases = w.symmetrize_lattice-deformed.new.bases in
+    let bases = c.in_ok-bases.bases in
     let listing = held c.list_cell.new.listing in
     let orbits = orbit_cells c.letter.new.orbits in
     let z : AnswerCells =
@@ -193,17 +194,18 @@ returns-clause-uncleared c =
       primitive = c.list_cell.new.primitive;
       primitive_cell_basis = bases.primitive;
       listed_cell_basis = bases.listed;
-      factors = w.invariant_factors-diagonalised.new.out;
+      factors = c.in_ok-factors.factors;
     } in
     given_back x (lent w) z c.letter.result
     (answered x (lent w) z c.list_cell.ensures.listed.shape p
-    (no_spaces w) (spaces w) w.prepare_all-prepared.result (table_rooms_lem w) w.prepare_all-prepared.ensures.prepared
+    (lists (no_spaces w)) (lists (spaces w)) w.prepare_all-prepared.result (table_rooms_lem w) w.prepare_all-prepared.ensures.prepared
     w.args.aligned.now (images w) w.align_permutations-found.result w.requires w.align_permutations-found.ensures
-    bases.conventional w.symmetrize_lattice-deformed.result w.symmetrize_lattice-deformed.ensures
-    w.invariant_factors-diagonalised.result w.invariant_factors-diagonalised.ensures
-    (images w) (images_front w p) (spaces w) (spaces-fronts w p) c.list_cell.ensures.listed c.letter.result
+    bases.conventional
+    (subst (LatticePromise x.lattice x.t x.c x.conventional) c.in_ok-bases.was w.symmetrize_lattice-deformed.ensures)
+    (subst (FactorsPromise x.c) c.in_ok-factors.was w.invariant_factors-diagonalised.ensures)
+    (images w) (images_front w p) (lists (spaces w)) (spaces-fronts w p) c.list_cell.ensures.listed c.letter.result
     (finished_by _ _ (counted w c.copies.result c.copies.ensures) (length x.positions) (length x.rotations_of_targets) (images w)
-    z.mapping z.positions bases.listed x.symprec x.multiplicities x.letters (spaces w) (letter_cells (record { labels = (lent w).labels; multiplicities = (lent w).multiplicities }) (lent w).letters)
+    z.mapping z.positions bases.listed x.symprec x.multiplicities x.letters (lists (spaces w)) (letter_cells (record { labels = (lent w).labels; multiplicities = (lent w).multiplicities }) (lent w).letters)
     (letter_cells orbits c.letter.new.letters) c.letter.result c.letter.ensures.lettered))
     (search (rules, c.list_cell.ensures.same_lists)) (search (rules, c.list_cell.ensures.same_lists)) (search (rules, c.list_cell.ensures.same_lists))
     (search (rules, c.list_cell.ensures.same_lists)) (search (rules, c.letter.ensures.same_orbits)) (search (rules, c.letter.ensures.same_orbits))
