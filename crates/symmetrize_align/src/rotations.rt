@@ -4,21 +4,7 @@ ghost use Rattle.definitions.specs.Transformation.{same_matrix, transform_rotati
 ghost use Rattle.symmetrize_align.specs.Aligning.{found, last_of};
 
 use definitions::{Integers, Linear, Rotation};
-use math_matrix::{transform_by, unimodular_inverse, widened};
-
-// ---- a target, as wide as a transformed rotation, which may have left eight bits
-
-fn wide_row(row: [i8; 3]) -> [i64; 3]
-    ensures { result ≡ row }
-{
-    row.map(i64::from)
-}
-
-fn wide(r: Rotation) -> Integers
-    ensures { result ≡ r }
-{
-    r.map(wide_row)
-}
+use math_matrix::{transform_by, unimodular_inverse, widened, wider};
 
 // apart from `last_place`, whose closure has a reference: there the check does not know that the rows are of three
 fn same(a: Integers, b: Integers) -> bool
@@ -48,6 +34,7 @@ pub(crate) fn put_transformed(t: Linear, rotations: &[Rotation], moved: &mut [In
 pub(crate) fn last_place(moved: &[Integers], target: Rotation) -> Option<usize>
     ensures { result ≡ found (last_of moved.now target) }
 {
-    let wanted = wide(target);
+    // as wide as a transformed rotation, which may have left eight bits
+    let wanted: Integers = wider(target);
     moved.iter().rposition(|m| same(*m, wanted))
 }
