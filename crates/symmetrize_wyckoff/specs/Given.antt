@@ -1,6 +1,6 @@
 -- What the letter call, its step and its walk are given, as the definitions speak of it.
 use Rattle.std.specs.Prelude.{ℕ, List}
-use Rattle.definitions.specs.SiteCalls.{LabelCells, LetterArguments, LetterCells, SpaceCells}
+use Rattle.definitions.specs.SiteCalls.{LabelCells, LetterArguments, LetterCells}
 use Rattle.base_cell.specs.Given.{arguments_of}
 use Rattle.data_wyckoff.specs.Spaces.{lists}
 use Rattle.symmetrize_wyckoff.specs.declared.find.Candidates.{Candidates}
@@ -12,9 +12,6 @@ use Rattle.symmetrize_wyckoff.specs.Prepared.{RealCandidates}
 abbrev pub candidates_of : Candidates → RealCandidates
 candidates_of x = record { multiplicities = x.multiplicities.now; letters = x.letters.now; spaces = x.spaces.now }
 
-abbrev pub spaces_of : Placed → SpaceCells
-spaces_of x = lists x.spaces.now
-
 abbrev pub placed_of : Placed → PlacedCells
 placed_of x =
     record {
@@ -23,7 +20,7 @@ placed_of x =
       symprec = x.symprec;
       candidates = x.candidates.now;
       letters = x.letters.now;
-      spaces = spaces_of x;
+      spaces = lists x.spaces.now;
     }
 
 abbrev pub letter_arguments_of : Lettering → LetterArguments

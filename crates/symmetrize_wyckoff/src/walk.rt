@@ -33,8 +33,9 @@ pub(crate) fn note_letters(
         result }
 {
     let mut table = [None; MOST_LISTED];
-    for j in 0..labels.len() {
-        let label = usize::from(labels[j]);
+    // By the site's number: a chain over the three lists side by side is no plainer.
+    for (j, label) in labels.iter().enumerate() {
+        let label = usize::from(*label);
         if table[label].is_none() {
             let at = Position::from(positions[j]);
             table[label] = candidates.find_letter(multiplicities[j], at);
