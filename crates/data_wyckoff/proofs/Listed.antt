@@ -13,8 +13,8 @@ use Rattle.definitions.specs.declared.Refusal.TheVariants.{Coordinates, Diagonal
 use Rattle.definitions.specs.Coordinates.{Readable}
 use Rattle.definitions.specs.Lent.{position_from, cells_of}
 use Rattle.definitions.specs.Lists.{any, Some}
-use Rattle.definitions.specs.Refusal.{Condition, ◌when◌, coordinates, diagonalisation, number, Verdict, Checked, Returns}
-use Rattle.definitions.specs.Refusal.{Applies, upto, precedence, accepted, refused}
+use Rattle.definitions.specs.Refusal.{Condition, ◌when◌, coordinates, diagonalisation, number, Verdict, Checked}
+use Rattle.definitions.specs.Refusal.{Returns, Applies, upto, precedence, accepted, refused}
 use Rattle.definitions.specs.SiteCalls.{prepare_conditions, PreparePromise}
 use Rattle.definitions.specs.Standardize.{TextLeaves}
 use Rattle.definitions.specs.Wyckoff.{Space, IsSpace, AreSpaces}
@@ -186,7 +186,8 @@ module _ (ts : List (List ℕ)) (t : List ℕ) (e x : List code.Space) (v : Verd
       record { long = p.long; checked = refused-more ts t v k p.checked d; stored = λ told. absurd (cc) }
 
 -- the candidate at place i, behind those before it
-module _ (ts : List (List ℕ)) (i : ℕ) (h : i < length ts) (e x : List code.Space) (v : Verdict) (p : PutSpaces (take i ts) e x v) where
+module _ (ts : List (List ℕ)) (i : ℕ) (h : i < length ts) (e x : List code.Space) (v : Verdict)
+    (p : PutSpaces (take i ts) e x v) where
   before : length (take i ts) ≡ i
   before = omega (arith, length-take i ts)
 

@@ -17,7 +17,8 @@ use Rattle.definitions.specs.Wyckoff.{Space, AreSpaces}
 use Rattle.laws.specs.Filling.{cut, padded_by}
 use Rattle.laws.specs.Lists.{list_any-is_any}
 use Rattle.laws.specs.Tests.{so, not_so}
-use Rattle.laws.specs.Verdicts.{HoldsAt, Passed, found_at_lem, found_none, refuse, accept, verdict_of, promise_accepted, promise_refused}
+use Rattle.laws.specs.Verdicts.{HoldsAt, Passed, found_at_lem, found_none, refuse, accept, verdict_of}
+use Rattle.laws.specs.Verdicts.{promise_accepted, promise_refused}
 use Rattle.data_wyckoff.specs.declared.space.Space as code
 use Rattle.data_wyckoff.specs.Spaces.{cells_of_space, zero_space, lists, PutSpaces, Judged}
 use Rattle.data_wyckoff.proofs.Listed.{Found, neither, six, eight, found}
@@ -49,7 +50,9 @@ module _ (texts : List (List ℕ)) (e : List code.Space) where
   room_is : any (shorter_than (length texts)) (space_rooms (lists e)) ≡ shorter_than (length texts) (length e)
   room_is = rooms_alike (shorter_than (length texts)) e
 
-  judged-many : too_many_candidates (length texts) ≡ true → Checked (prepare_all_conditions texts (space_rooms (lists e))) (Err Counts)
+  judged-many :
+      too_many_candidates (length texts) ≡ true →
+      Checked (prepare_all_conditions texts (space_rooms (lists e))) (Err Counts)
   unfolding verdict_of found_at_lem Passed HoldsAt
   judged-many h = refuse (prepare_all_conditions texts (space_rooms (lists e))) 0 tt (so h) (Err Counts) refl
 
@@ -127,7 +130,9 @@ module _ {A B : Type 0} (f : A → B) (z : A) where
   map_padded a n = rw (map-append f a (replicate (n - length a) z), map_replicate (n - length a), length-map a f)
 
 module _ (e y : List code.Space) (ss : List Space) (h : y ≡ padded zero_space (map cells_of_space ss) (length e)) where
-  held : {A : Type 0} (f : code.Space → A) → Holds (f zero_space) (map f e) (map f y) (map (λ s. f (cells_of_space s)) ss)
+  held :
+      {A : Type 0} (f : code.Space → A) →
+      Holds (f zero_space) (map f e) (map f y) (map (λ s. f (cells_of_space s)) ss)
   held f =
       ap (map f) h
       ∙ map_padded f zero_space (map cells_of_space ss) (length e)
@@ -147,7 +152,8 @@ module _ (e y : List code.Space) (ss : List Space) (h : y ≡ padded zero_space 
 module _ (texts : List (List ℕ)) (e x y : List code.Space) where
   -- the list with the spaces in front, and zero behind them
   pub keep-accepted :
-      Judged texts e x (Ok tt) → y ≡ cut zero_space (length texts) x → PrepareAllPromise texts (lists e) (lists y) (Ok tt)
+      Judged texts e x (Ok tt) → y ≡ cut zero_space (length texts) x →
+      PrepareAllPromise texts (lists e) (lists y) (Ok tt)
   keep-accepted j k =
       let s = j.stored refl in
       let r = j.room refl in
@@ -159,7 +165,8 @@ module _ (texts : List (List ℕ)) (e x y : List code.Space) where
 
   -- the list zero
   pub keep_refused :
-      (n : Refusal) → Judged texts e x (Err n) → y ≡ cut zero_space 0 x → PrepareAllPromise texts (lists e) (lists y) (Err n)
+      (n : Refusal) → Judged texts e x (Err n) → y ≡ cut zero_space 0 x →
+      PrepareAllPromise texts (lists e) (lists y) (Err n)
   keep_refused n j k =
       promise_refused (prepare_all_conditions texts (space_rooms (lists e))) (AreSpaces texts)
       (HoldsSpaces (lists e) (lists y)) (HoldsSpaces (lists e) (lists y) []) n j.checked

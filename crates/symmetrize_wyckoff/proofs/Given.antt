@@ -49,7 +49,10 @@ prepared_alike m a ss =
     list_any-is_any (unlike m) (a ∷ length ss ∷ []) ∙ by (unlike m a)
   where
     rest : any (unlike m) (length ss ∷ []) ≡ any (unlike m) (space_rooms (lists ss))
-    rest = sym (list_any-is_any (unlike m) (length ss ∷ [])) ∙ alone (unlike m (length ss)) ∙ sym (rooms_alike (unlike m) ss)
+    rest =
+        sym (list_any-is_any (unlike m) (length ss ∷ []))
+        ∙ alone (unlike m (length ss))
+        ∙ sym (rooms_alike (unlike m) ss)
 
     by :
         (b : Bool) → elim b as (λ (x : Bool). Bool) [ true ↦ true | false ↦ any (unlike m) (length ss ∷ []) ]

@@ -1,6 +1,6 @@
 -- What is left of the term to read does not change over spaces.
-use Rattle.std.proofs.Common.{ℕ, zero, suc, ◌+◌, ◌≤◌, ◌<◌, ◌≡◌, sym, ap, subst, ◌∙◌, Option, Some, None, List, length, get_or, take, drop, ◌-◌}
-use Rattle.std.proofs.Common.{min, arith, rules, tests, length-drop}
+use Rattle.std.proofs.Common.{ℕ, zero, suc, ◌+◌, ◌-◌, ◌≤◌, ◌<◌, ◌≡◌, sym, ap, subst, ◌∙◌, Option, Some, None, List}
+use Rattle.std.proofs.Common.{length, get_or, take, drop, min, arith, rules, tests, length-drop}
 use Rattle.std.proofs.lemmas.Iterator.{IsFirst-from_position, YieldsList-from_slice}
 use Rattle.std.proofs.lemmas.List.{get_or-drop}
 use Rattle.std.proofs.Math.Seq.{take-length}
@@ -63,7 +63,8 @@ returns c =
     ap (λ n. take n rest) (sym (length-drop c.min.result text)) ∙ take-length rest in
     let p =
     IsFirst-from_position _ _ c.position.result (λ b. b ≡ 32 → ⊥) (λ b. b ≡ 32) c.position.ensures.ran
-    (YieldsList-from_slice rest (c.iter.ensures.rest ∙ whole)) (λ x q k. search (rules, tests)) (λ x q k. search (rules, tests)) in
+    (YieldsList-from_slice rest (c.iter.ensures.rest ∙ whole))
+    (λ x q k. search (rules, tests)) (λ x q k. search (rules, tests)) in
     subst (λ j. NoSpace text f (f + j))
     (sym (c.unwrap_or.ensures ∙ ap (λ l. unwrap_or c.position.result (length l)) whole))
     (found text f c.min.result c.min.ensures c.position.result p)

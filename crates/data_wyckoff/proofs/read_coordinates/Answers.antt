@@ -13,7 +13,9 @@ use Rattle.laws.specs.Verdicts.{accepted_with, refused_with_lem}
 use Rattle.data_wyckoff.specs.Terms.{ReadAs}
 use Rattle.data_wyckoff.proofs.read_coordinates.Goals as goal
 
-told : (text : List ℕ) (o : Option (Matrix × List Float)) → ReadAs text o → CoordinatesPromise text (ok_or o Coordinates)
+told :
+    (text : List ℕ) (o : Option (Matrix × List Float)) → ReadAs text o →
+    CoordinatesPromise text (ok_or o Coordinates)
 unfolding verdict_of found_at_lem found_none Passed HoldsAt
 told text None h =
     refused_with_lem (text_conditions text) _ Coordinates (refuse (text_conditions text) 0 tt h (Err Coordinates) refl)

@@ -32,15 +32,13 @@ loop-k-preserved c =
     let l = c.loop-k in
     let v = c.real_space in
     let ss = c.args.spaces.now in
+    let out = set l.out l.k v.result in
     let space = lent_space (lists ss) in
-    let e = space_at ss l.k c.loop-k-test.true in (
+    let e = space_at ss l.k c.loop-k-test.true in
+    let other = λ (i : ℕ) (b : i < l.k). get_or-set_other l.out l.k i v.result no_space (λ q. omega arith) in
+    let same = get_or-set_same l.out l.k v.result no_space (omega (arith, l.invariant.0)) in (
       simp length-set l.invariant.0,
-      below_more (λ i. (get_or (set l.out l.k v.result) i no_space ≡ real_space (space i)) × CountedDiagonal (space i).snf.d)
-          l.k
-          (λ i b. (get_or-set_other l.out l.k i v.result no_space (λ q. omega arith) ∙ (l.invariant.1 i b).0, (l.invariant.1 i b).1)) (
-            get_or-set_same l.out l.k v.result no_space (omega (arith, l.invariant.0))
-                ∙ v.ensures.0
-                ∙ ap real_space (sym e),
-            subst (λ s. CountedDiagonal s.snf.d) (sym e) v.ensures.1,
-          ),
+      below_more (λ i. (get_or out i no_space ≡ real_space (space i)) × CountedDiagonal (space i).snf.d) l.k
+          (λ i b. (other i b ∙ (l.invariant.1 i b).0, (l.invariant.1 i b).1))
+          (same ∙ v.ensures.0 ∙ ap real_space (sym e), subst (λ s. CountedDiagonal s.snf.d) (sym e) v.ensures.1),
     )

@@ -33,7 +33,8 @@ pub slice_bounds-letter_spaces-end : goal.slice_bounds-letter_spaces-end
 slice_bounds-letter_spaces-end c =
     let s = (goal.at.slice_bounds-letter_spaces-end c).Start in
     let n = length c.args.self.now.texts.now in
-    omega (arith, few_candidates (given s) (lent s) (lent s) c.requires, c.in_ok-prepare_all.ensures.len, length-take n c.prepare_all.new.spaces)
+    let few = few_candidates (given s) (lent s) (lent s) c.requires in
+    omega (arith, few, c.in_ok-prepare_all.ensures.len, length-take n c.prepare_all.new.spaces)
 
 pub letter_spaces-requires : goal.letter_spaces-requires
 letter_spaces-requires c =
