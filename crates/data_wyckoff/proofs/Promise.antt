@@ -26,6 +26,18 @@ use Rattle.data_wyckoff.proofs.Listed.{Found, neither, six, eight, found}
 -- ---- the verdict
 
 -- the five lists are as long as the one
+pub rooms_are :
+    (ss : List code.Space) →
+    space_rooms (lists ss) ≡ length ss ∷ length ss ∷ length ss ∷ length ss ∷ length ss ∷ []
+rooms_are ss = λ i.
+    length-map ss (λ s. s.matrix) i
+    ∷ length-map ss (λ s. s.shift) i
+    ∷ length-map ss (λ s. s.d) i
+    ∷ length-map ss (λ s. s.l) i
+    ∷ length-map ss (λ s. s.r) i
+    ∷ []
+
+-- so a test of all their lengths is the test of its
 module _ (t : ℕ → Bool) where
   five_alike : (m : ℕ) → any t (m ∷ m ∷ m ∷ m ∷ m ∷ []) ≡ t m
   five_alike m = sym (list_any-is_any t (m ∷ m ∷ m ∷ m ∷ m ∷ [])) ∙ by (t m)
@@ -35,16 +47,7 @@ module _ (t : ℕ → Bool) where
       by false = refl
 
   pub rooms_alike : (ss : List code.Space) → any t (space_rooms (lists ss)) ≡ t (length ss)
-  rooms_alike ss =
-      ap (any t)
-      (λ i.
-      length-map ss (λ s. s.matrix) i
-      ∷ length-map ss (λ s. s.shift) i
-      ∷ length-map ss (λ s. s.d) i
-      ∷ length-map ss (λ s. s.l) i
-      ∷ length-map ss (λ s. s.r) i
-      ∷ [])
-      ∙ five_alike (length ss)
+  rooms_alike ss = ap (any t) (rooms_are ss) ∙ five_alike (length ss)
 
 module _ (texts : List (List ℕ)) (e : List code.Space) where
   room_is : any (shorter_than (length texts)) (space_rooms (lists e)) ≡ shorter_than (length texts) (length e)
