@@ -101,7 +101,7 @@ fn judge(texts: &[Text], spaces: &mut [Space]) -> Verdict
     Ok(())
 }
 
-// Every candidate of a list, once for all positions.
+// Every candidate of a list, once for all positions; zero behind their spaces, and all zero after a refusal.
 pub fn prepare_all(texts: &[Text], spaces: &mut [Space]) -> Verdict
     ensures prepared { PrepareAllPromise texts.now (lists spaces.old) (lists spaces.new) result }
     ensures len { length spaces.new ≡ length spaces.old }
