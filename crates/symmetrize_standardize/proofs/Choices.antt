@@ -1,7 +1,7 @@
 -- The candidates with their spaces, read off the lists of their fields.
 use Prim.Native.Nat.{ℕ, ◌<◌}
 use mathlib.Core.Path.{◌≡◌, sym, ap, ◌∙◌}
-use mathlib.Core.List.{List, [], ◌∷◌, map}
+use mathlib.Core.List.{List, [], map}
 use native.Mathlib.Omega.{arith}
 use lib.ListN.{length, get_or, take, length-map}
 use lib.Seq.{ext_get_or, take_all}
@@ -11,7 +11,7 @@ use Rattle.definitions.specs.Real.{origin}
 use Rattle.definitions.specs.Lent.{cells_of, zero_cells, zero_matrix}
 use Rattle.definitions.specs.Lent.{candidates_from}
 use Rattle.definitions.specs.Wyckoff.{Space, Choice, choices}
-use Rattle.definitions.specs.SiteCalls.{SpaceCells, space_rooms, HoldsSpaces, AssignArguments, choice_at}
+use Rattle.definitions.specs.SiteCalls.{SpaceCells, HoldsSpaces, AssignArguments, choice_at}
 use Rattle.data_wyckoff.specs.Spaces.{lists}
 use Rattle.data_wyckoff.specs.declared.space.Space as code
 use Rattle.laws.specs.Lists.{map_at, up_to_at, below_up_to, length-up_from}
@@ -49,17 +49,8 @@ fronts_are n entry exit ss e h = λ i.
       rs = front_of zero_matrix (map (λ (s : Space). s.snf.r) ss) exit.rs (length entry.rs) n h.rs (length-map ss (λ (s : Space). s.snf.r) ∙ e) i;
     }
 
--- of a list of so many, the room in each list of fields, and each list to its end
+-- a list of so many, read to the end of each list of fields
 module _ (l : List code.Space) (n : ℕ) (e : length l ≡ n) where
-  pub rooms_are : space_rooms (lists l) ≡ n ∷ n ∷ n ∷ n ∷ n ∷ []
-  rooms_are = λ i.
-      (length-map l (λ (s : code.Space). s.matrix) ∙ e) i
-      ∷ (length-map l (λ (s : code.Space). s.shift) ∙ e) i
-      ∷ (length-map l (λ (s : code.Space). s.d) ∙ e) i
-      ∷ (length-map l (λ (s : code.Space). s.l) ∙ e) i
-      ∷ (length-map l (λ (s : code.Space). s.r) ∙ e) i
-      ∷ []
-
   all-of : {A : Type 0} (f : code.Space → A) → map f l ≡ take n (map f l)
   all-of f = sym (take_all n (map f l) (omega (arith, length-map l f, e)))
 

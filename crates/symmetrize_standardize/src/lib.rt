@@ -24,9 +24,7 @@ use base_transformation::invariant_factors;
 use checks::copies;
 use data_wyckoff::space::{Space, prepare_all};
 use definitions::limits::{MOST_CANDIDATES, MOST_IMAGES};
-use definitions::{
-    AnswerCounts, Basis, Cells, Linear, Point, Position, Refusal, Rotation, Text,
-};
+use definitions::{AnswerCounts, Basis, Cells, Linear, Point, Position, Refusal, Rotation, Text};
 use lent::{Zero, clear};
 use symmetrize_align::{Operations, align_permutations};
 use symmetrize_lattice::{GivenLattice, symmetrize_lattice};

@@ -2,11 +2,11 @@
 use crate::records::{print_refused, show_answer};
 use crate::streams::Streams;
 use definitions::{Passes, Refusal, Stages};
-use math_snf::{passes, snf};
+use math_snf::{SmithForm, passes, snf};
 use std::io::{self, Read, Write};
 
 pub(crate) fn run_snf<R: Read, W: Write>(streams: &mut Streams<R, W>) -> io::Result<()> {
-    let answer = snf(streams.read()?).map(|s| [s.d, s.l, s.r]);
+    let answer = snf(streams.read()?).map(|SmithForm { d, l, r }| [d, l, r]);
     show_answer(streams, answer)
 }
 

@@ -1,9 +1,9 @@
 // The calls of symmetrize/symmetrization.rs: positions and the lattice.
-use crate::records::{Shown, print_verdict};
+use crate::records::{print_verdict, show_answer};
 use crate::streams::Streams;
-use definitions::{Basis, Cells, Position};
+use definitions::{Bases, Basis, Cells, Position};
 use std::io::{self, Read, Write};
-use symmetrize_lattice::{Bases, symmetrize_lattice};
+use symmetrize_lattice::{GivenLattice, symmetrize_lattice};
 use symmetrize_positions::{GivenTargets, symmetrize_positions};
 
 pub(crate) fn run_positions<R: Read, W: Write>(streams: &mut Streams<R, W>) -> io::Result<()> {
@@ -24,19 +24,26 @@ pub(crate) fn run_positions<R: Read, W: Write>(streams: &mut Streams<R, W>) -> i
     streams.show_all(&out)
 }
 
+fn in_order(bases: Bases) -> [Basis; 3] {
+    let Bases {
+        conventional,
+        primitive,
+        listed,
+    } = bases;
+    [conventional, primitive, listed]
+}
+
 pub(crate) fn run_lattice<R: Read, W: Write>(streams: &mut Streams<R, W>) -> io::Result<()> {
-    let basis = streams.read()?;
+    let lattice = streams.read()?;
     let t = streams.read()?;
     let c = streams.read()?;
     let rotations = streams.read_list()?;
-    let mut bases = Bases {
-        conventional: Basis::SEVEN,
-        primitive: Basis::SEVEN,
-        listed: Basis::SEVEN,
+    let given = GivenLattice {
+        lattice,
+        t,
+        c,
+        rotations: &rotations,
     };
-    let v = symmetrize_lattice(basis, t, c, &rotations, &mut bases);
-    print_verdict(streams, v)?;
-    streams.show(bases.conventional)?;
-    streams.show(bases.primitive)?;
-    streams.show(bases.listed)
+    let bases = symmetrize_lattice(&given).map(in_order);
+    show_answer(streams, bases)
 }

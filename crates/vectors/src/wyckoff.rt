@@ -11,10 +11,16 @@ pub(crate) fn run_prepare<R: Read, W: Write>(streams: &mut Streams<R, W>) -> io:
     let text = streams.read()?;
     let prepared = prepare(&text);
     print_verdict(streams, prepared)?;
-    let space = prepared.unwrap_or(Space::ZERO);
-    streams.show(space.matrix)?;
-    streams.show(space.shift)?;
-    streams.show([space.d, space.l, space.r])
+    let Space {
+        matrix,
+        shift,
+        d,
+        l,
+        r,
+    } = prepared.unwrap_or(Space::ZERO);
+    streams.show(matrix)?;
+    streams.show(shift)?;
+    streams.show([d, l, r])
 }
 
 fn show_match<R: Read, W: Write>(streams: &mut Streams<R, W>, m: Option<Fit>) -> io::Result<()> {

@@ -15,6 +15,7 @@ use Rattle.laws.specs.Verdicts.{Passed, passed_on}
 use borrow.Author.Rules.{rules}
 use Rattle.data_wyckoff.specs.Spaces.{lists, zero_space}
 use Rattle.data_wyckoff.specs.declared.space.Space as code
+use Rattle.data_wyckoff.proofs.Promise.{rooms_are}
 use Rattle.base_transformation.specs.Runs.{held}
 use Rattle.base_cell.specs.Given.{orbit_cells}
 use Rattle.symmetrize_wyckoff.specs.Given.{letter_cells}
@@ -24,7 +25,7 @@ use Rattle.symmetrize_standardize.specs.Stages.{Uncleared, candidates_room, leas
 use Rattle.symmetrize_standardize.proofs.General.{Until}
 use Rattle.symmetrize_standardize.proofs.Ladder.{conditions, table_rooms, few_candidates, Right, whole_until}
 use Rattle.symmetrize_standardize.proofs.Parts.{listed-word, fits_kept}
-use Rattle.symmetrize_standardize.proofs.Choices.{fronts, rooms_are, fronts_of_all}
+use Rattle.symmetrize_standardize.proofs.Choices.{fronts, fronts_of_all}
 use Rattle.symmetrize_standardize.proofs.Past.{known_copies, known_sites, known_entries, known_candidates, known_roomy}
 use Rattle.symmetrize_standardize.proofs.Assembled.{right_of, lattice_unrefused, factors_unrefused, refused_uncleared, finished_by, answered, given_back}
 use Rattle.symmetrize_standardize.proofs.answer_with.Goals as goal
@@ -57,7 +58,7 @@ abbrev images : After-whole_verdict → List ℕ
 images w = w.align_permutations-found.new.out
 
 table_rooms_lem : (w : After-whole_verdict) → space_rooms (lists (no_spaces w)) ≡ table_rooms (given w)
-table_rooms_lem w = rooms_are (no_spaces w) _ (no_spaces_long w)
+table_rooms_lem w = rooms_are (no_spaces w) ∙ ap (λ n. n ∷ n ∷ n ∷ n ∷ n ∷ []) (no_spaces_long w)
 
 abbrev told : After-whole_verdict → Told
 told w =
