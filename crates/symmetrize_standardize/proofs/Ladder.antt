@@ -32,7 +32,7 @@ use Rattle.laws.specs.Order.{numbered}
 use Rattle.laws.specs.Verdicts.{HoldsAt, Passed, found_at_lem, refuse, verdict_of, verdict_in}
 use Rattle.symmetrize_standardize.specs.Stages.{refused_with, list_counts, list_entries, list_floats, given_verdict}
 use Rattle.symmetrize_standardize.specs.declared.verdicts.Told.{Told}
-use Rattle.symmetrize_standardize.specs.Stages.{candidates_room, images_room, least_room, work_verdict, whole_verdict}
+use Rattle.symmetrize_standardize.specs.Stages.{candidates_room, images_room, lacks_room, work_verdict, whole_verdict}
 use Rattle.symmetrize_standardize.proofs.General.{Until, rung, until_then, told_applies, told_first}
 use Rattle.symmetrize_standardize.proofs.Facts.{Like, like, site-count, of_operations, of_targets, of_texts}
 use Rattle.symmetrize_standardize.proofs.Facts.{same-counts, same_entries, same-floats, same-images, Within, within}
@@ -248,52 +248,6 @@ module _ (x : Given) (s : Told) (r : Right x s) (w : Within x) where
 
 -- ---- 9 and 10
 
-min-short : (a b n : ℕ) → ltb (min a b) n ≡ (ltb a n || ltb b n)
-min-short a b n = by (ltb a n) refl (ltb b n) refl
-  where
-    by : (y : Bool) → ltb a n ≡ y → (z : Bool) → ltb b n ≡ z → ltb (min a b) n ≡ (y || z)
-    by true f z g = let u : a < n = ltb-true a n f in lt-ltb (min a b) n (omega (arith, min-le_left a b))
-    by false f true g = let u : b < n = ltb-true b n g in lt-ltb (min a b) n (omega (arith, min-le_right a b))
-    by false f false g =
-        let u : n ≤ a = ltb-false a n f in
-        let v : n ≤ b = ltb-false b n g in
-        le-ltb (min a b) n (le-min u v)
-
-any_is : (t : ℕ → Bool) (a : ℕ) (l : List ℕ) → any t (a ∷ l) ≡ (t a || any t l)
-unfolding any
-any_is t a l = by (t a)
-  where
-    by : (b : Bool) → elim b as (λ (x : Bool). Bool) [ true ↦ true | false ↦ any t l ] ≡ (b || any t l)
-    by true = refl
-    by false = refl
-
-any_one : (t : ℕ → Bool) (a : ℕ) → any t (a ∷ []) ≡ t a
-unfolding any
-any_one t a = by (t a)
-  where
-    by : (b : Bool) → elim b as (λ (x : Bool). Bool) [ true ↦ true | false ↦ false ] ≡ b
-    by true = refl
-    by false = refl
-
-unfoldable least_of : ℕ → List ℕ → ℕ
-least_of a [] = a
-least_of a (b ∷ l) = min a (least_of b l)
-
-least_of-short : (n a : ℕ) (l : List ℕ) → shorter_than n (least_of a l) ≡ any (shorter_than n) (a ∷ l)
-unfolding least_of
-least_of-short n a [] = sym (any_one (shorter_than n) a)
-least_of-short n a (b ∷ l) =
-    min-short a (least_of b l) n
-    ∙ ap (λ r. shorter_than n a || r) (least_of-short n b l)
-    ∙ sym (any_is (shorter_than n) a (b ∷ l))
-
--- the least room is too short just if one is
-pub least-short : (n : ℕ) (r : Rooms) → shorter_than n (least_room r) ≡ any (shorter_than n) (listed_rooms r)
-unfolding least_of
-least-short n r =
-    least_of-short n r.positions
-    (r.points ∷ r.mapping ∷ r.elements ∷ r.labels ∷ r.multiplicities ∷ r.letters ∷ [])
-
 module _ (x : Given) (k : Like x) where
   pub listed_is : listed_count (job_from x) ≡ length x.positions * copies x.c
   unfolding job_from
@@ -302,11 +256,10 @@ module _ (x : Given) (k : Like x) where
   pub short_is :
       (rooms : Rooms) →
       too_short (job_from x) rooms
-      ≡ (shorter_than (length x.positions * copies x.c) (least_room rooms) || shorter_than (length x.positions) rooms.primitive)
+      ≡ lacks_room rooms (length x.positions * copies x.c) (length x.positions)
   short_is rooms =
       ap (λ n. any (shorter_than n) (listed_rooms rooms) || shorter_than (site_count (job_from x)) rooms.primitive) listed_is
       ∙ ap (λ n. any (shorter_than (length x.positions * copies x.c)) (listed_rooms rooms) || shorter_than n rooms.primitive) (site-count x k)
-      ∙ ap (λ b. b || shorter_than (length x.positions) rooms.primitive) (sym (least-short (length x.positions * copies x.c) rooms))
 
   pub absent_is : target_absent (job_from x) ≡ rotation_absent x.t x.rotations x.rotations_of_targets
   unfolding job_from
@@ -316,7 +269,7 @@ module _ (x : Given) (k : Like x) where
 
 module _ (x : Given) (rooms : Rooms) (s : Told) (r : Right x s) where
   abbrev work : Verdict
-  work = work_verdict x.t x.c (length x.positions) (least_room rooms) rooms.primitive s
+  work = work_verdict x.t x.c (length x.positions) rooms s
 
   work_until : Passed (conditions x rooms) 4 → Until (conditions x rooms) 12 work
   unfolding Passed HoldsAt verdict_of found_at_lem job_from
@@ -341,7 +294,7 @@ module _ (x : Given) (rooms : Rooms) (s : Told) (r : Right x s) where
       rung cs 8 12 ListedSites (too_many_listed (length x.positions * copies x.c)) _ p₈
       (subst (λ n. T (too_many_listed n)) (sym (listed_is x k))) (subst (λ n. T (too_many_listed n)) (listed_is x k)) (λ p h. refl) (λ p₉.
       rung cs 9 12 Buffer
-      (shorter_than (length x.positions * copies x.c) (least_room rooms) || shorter_than (length x.positions) rooms.primitive) _ p₉
+      (lacks_room rooms (length x.positions * copies x.c) (length x.positions)) _ p₉
       (subst T (sym (short_is x k rooms))) (subst T (short_is x k rooms)) (λ p h. refl) (λ p₁₀.
       rung cs 10 12 TargetRotation (refused_with TargetRotation s.aligned) _ p₁₀
       (λ h. subst T (sym (absent_is x k)) (eleven x s r w h)) (λ h. from_eleven x s r w permuted unimodular (subst T (absent_is x k) h)) (λ p h. refl) (λ p₁₁.
@@ -349,5 +302,5 @@ module _ (x : Given) (rooms : Rooms) (s : Told) (r : Right x s) where
       (twelve x s r w) (from_twelve x s r w unimodular copied) (λ p h. refl) (λ p₁₂. p₁₂))))))))
 
   -- Past 12, or refused with the lowest number that applies.
-  pub whole_until : Until (conditions x rooms) 12 (whole_verdict x (least_room rooms) rooms.primitive s)
+  pub whole_until : Until (conditions x rooms) 12 (whole_verdict x rooms s)
   whole_until = until_then (conditions x rooms) 4 12 (given_verdict x) work (given_until x rooms) work_until

@@ -1,12 +1,12 @@
 -- The verdict of the whole call test by test: of the lists as they are lent, then of what its sub-calls told.
-use Rattle.std.specs.Prelude.{ℕ, ◌*◌, ◌≤◌, ◌≡◌, Bool, false, not, ◌||◌, cond, List, length, take, eqb, min, ℤ, Float}
+use Rattle.std.specs.Prelude.{ℕ, ◌*◌, ◌≤◌, ◌≡◌, Bool, false, not, ◌||◌, cond, List, length, take, eqb, ℤ, Float}
 use Rattle.definitions.specs.Refusal.{Verdict, TellsOf, number}
 use Rattle.std.specs.Prelude.{Result, Err, Ok}
 use Rattle.std.specs.List.{filter, enumerate_from}
 use Rattle.definitions.specs.declared.Refusal.{Refusal}
 use Rattle.definitions.specs.declared.Refusal.TheVariants.{Counts, MatrixEntry, FloatRange, SiteImage, Coordinates, Determinant, Diagonalisation, ListedSites, Buffer, TargetRotation, Lattice, OrbitFit}
 use Rattle.definitions.specs.declared.AnswerCounts.{AnswerCounts}
-use Rattle.definitions.specs.Lists.{all}
+use Rattle.definitions.specs.Lists.{all, any}
 use Rattle.definitions.specs.Refusal.{Outcome, Answered}
 use Rattle.definitions.specs.Limits.{too_many_sites, not_some, too_many_candidates, in_range, in_range_of_c, lattice_within}
 use Rattle.definitions.specs.Limits.{position_within, good_symprec, not_unimodular, copies, bad_copies, too_many_listed}
@@ -17,7 +17,7 @@ use Rattle.definitions.specs.Calls.{PositionsPromise, PointsPromise}
 use Rattle.definitions.specs.SiteCalls.{ListingCells, CopiesListed, LabelArguments, LabelCells, LetterCells}
 use Rattle.definitions.specs.SiteCalls.{AssignArguments, Assigned}
 use Rattle.definitions.specs.Lent.{cells_within, unlike}
-use Rattle.definitions.specs.Standardize.{Rooms, Answer, IsAnswer}
+use Rattle.definitions.specs.Standardize.{Rooms, listed_rooms, Answer, IsAnswer}
 use Rattle.definitions.specs.WholeCalls.{Given, job_from, unlike_lists, lists_conditions, AnswerCells, rooms_of}
 use Rattle.definitions.specs.WholeCalls.{HoldsAnswer, answer_counts}
 use Rattle.math_matrix.specs.Laws.{Three}
@@ -82,27 +82,24 @@ images_room n g = cond (too_many_sites n) 0 (cond (not_some g) 0 (g * n))
 
 -- ---- 5 to 12, by the verdicts of the sub-calls
 
--- the least of the rooms in listed sites
-abbrev pub least_room : Rooms → ℕ
-least_room r =
-    min r.positions
-    (min r.points (min r.mapping (min r.elements (min r.labels (min r.multiplicities r.letters)))))
+-- a list with an entry a listed site is shorter than so many, or that of the primitive sites than so many
+abbrev pub lacks_room : Rooms → ℕ → ℕ → Bool
+lacks_room r listed sites = any (shorter_than listed) (listed_rooms r) || shorter_than sites r.primitive
 
--- for n sites, with a room in listed and one in primitive sites
-abbrev pub work_verdict : Matrix → Matrix → ℕ → ℕ → ℕ → Told → Verdict
-work_verdict t c n listed primitive s =
+-- for n sites, into lists of these rooms
+abbrev pub work_verdict : Matrix → Matrix → ℕ → Rooms → Told → Verdict
+work_verdict t c n r s =
     cond (refused_with SiteImage s.aligned) (Err SiteImage)
     (cond (refused_with Coordinates s.prepared) (Err Coordinates)
     (cond (not_unimodular t || bad_copies c) (Err Determinant)
     (cond (refused_with Diagonalisation s.factors || refused_with Diagonalisation s.prepared) (Err Diagonalisation)
     (cond (too_many_listed (n * copies c)) (Err ListedSites)
-    (cond (shorter_than (n * copies c) listed || shorter_than n primitive) (Err Buffer)
+    (cond (lacks_room r (n * copies c) n) (Err Buffer)
     (cond (refused_with TargetRotation s.aligned) (Err TargetRotation)
     (cond (refused_with Lattice s.lattice) (Err Lattice) (Ok tt))))))))
 
-abbrev pub whole_verdict : Given → ℕ → ℕ → Told → Verdict
-whole_verdict x listed primitive s =
-    then_verdict (given_verdict x) (work_verdict x.t x.c (length x.positions) listed primitive s)
+abbrev pub whole_verdict : Given → Rooms → Told → Verdict
+whole_verdict x r s = then_verdict (given_verdict x) (work_verdict x.t x.c (length x.positions) r s)
 
 -- ---- the work
 

@@ -14,7 +14,7 @@ ghost use Rattle.data_wyckoff.specs.Spaces.{lists};
 ghost use Rattle.symmetrize_standardize.specs.Given.{given_by, answer_cells, SameAnswer};
 ghost use Rattle.symmetrize_standardize.specs.Given.{labelling_of, placed_in};
 ghost use Rattle.symmetrize_wyckoff.specs.Given.{letter_cells};
-ghost use Rattle.symmetrize_standardize.specs.Stages.{Finished, least_room, images_room, Uncleared};
+ghost use Rattle.symmetrize_standardize.specs.Stages.{Finished, lacks_room, images_room, Uncleared};
 
 use crate::verdicts::Told;
 use base_cell::Orbits;
@@ -25,7 +25,7 @@ use checks::copies;
 use data_wyckoff::space::{Space, prepare_all};
 use definitions::limits::{MOST_CANDIDATES, MOST_IMAGES};
 use definitions::{AnswerCounts, Basis, Cells, Linear, Point, Position, Refusal, Rotation, Text};
-use lent::{Zero, clear};
+use lent::{Zero, clear, lacks_room};
 use symmetrize_align::{Operations, align_permutations};
 use symmetrize_lattice::{GivenLattice, symmetrize_lattice};
 use symmetrize_wyckoff::arguments::Placed;
@@ -90,16 +90,22 @@ impl Answer<'_> {
         *self.factors = [0, 0, 0];
     }
 
-    // What there is room for in each of the lists with an entry a listed site.
-    fn least_room(&self) -> usize
-        ensures { result ≡ least_room (rooms_of (answer_cells self.now)) }
+    // Whether a list with an entry a listed site is shorter than so many, or that of the primitive sites than so many.
+    pub(crate) fn lacks_room(&self, listed: usize, sites: usize) -> bool
+        ensures { result ≡ lacks_room (rooms_of (answer_cells self.now)) listed sites }
     {
-        let of_orbits = self
-            .labels
-            .len()
-            .min(self.multiplicities.len().min(self.letters.len()));
-        let of_sites = self.mapping.len().min(self.elements.len().min(of_orbits));
-        self.positions.len().min(self.points.len().min(of_sites))
+        lacks_room(
+            listed,
+            [
+                self.positions.len(),
+                self.points.len(),
+                self.mapping.len(),
+                self.elements.len(),
+                self.labels.len(),
+                self.multiplicities.len(),
+                self.letters.len(),
+            ],
+        ) || self.primitive.len() < sites
     }
 }
 
@@ -186,7 +192,7 @@ fn answer_with(job: &Job, aligned: &mut [u8], answer: &mut Answer) -> Result<Ans
         aligned: found,
         lattice: deformed,
     };
-    job.whole_verdict(answer.least_room(), answer.primitive.len(), &told)?;
+    job.whole_verdict(answer, &told)?;
     // past the verdict neither is a refusal
     let bases = deformed?;
     let factors = diagonalised?;

@@ -2,13 +2,13 @@
 // numbers.
 ghost use Rattle.std.specs.Prelude.{◌≤◌, ◌≡◌, ◌||◌, length};
 ghost use Rattle.definitions.specs.Limits.{not_unimodular, bad_copies};
-ghost use Rattle.definitions.specs.WholeCalls.{unlike_lists};
-ghost use Rattle.symmetrize_standardize.specs.Given.{given_by};
+ghost use Rattle.definitions.specs.WholeCalls.{unlike_lists, rooms_of};
+ghost use Rattle.symmetrize_standardize.specs.Given.{given_by, answer_cells};
 ghost use Rattle.symmetrize_standardize.specs.Stages.{list_counts, list_entries, list_floats, given_verdict};
 ghost use Rattle.symmetrize_standardize.specs.Stages.{refused_with};
 ghost use Rattle.symmetrize_standardize.specs.Stages.{candidates_room, images_room, work_verdict, whole_verdict};
 
-use crate::Job;
+use crate::{Answer, Job};
 use checks::{
     all_cells_within, all_in_range, copies, good_copies, good_symprec, in_range, is_some_count,
     lattice_within, position_within, unimodular,
@@ -138,12 +138,12 @@ impl Job<'_> {
 
     // ---- 5 to 12
 
-    // With a room in listed and one in primitive sites. 5 is told by the aligned permutations, which test every image
+    // Into the lists of an answer. 5 is told by the aligned permutations, which test every image
     // past 2 and 3; 8 is C's or a candidate's.
-    fn work_verdict(&self, listed_room: usize, primitive_room: usize, told: &Told) -> Verdict
+    fn work_verdict(&self, answer: &Answer, told: &Told) -> Verdict
         requires { length self.now.positions.now ≤ 256 }
         ensures { result ≡ work_verdict self.now.t self.now.c (length self.now.positions.now)
-            listed_room primitive_room told.now }
+            (rooms_of (answer_cells answer.now)) told.now }
     {
         if refused_with(told.aligned, Refusal::SiteImage) {
             return Err(Refusal::SiteImage);
@@ -164,7 +164,7 @@ impl Job<'_> {
         if MOST_LISTED < listed {
             return Err(Refusal::ListedSites);
         }
-        if (listed_room < listed) | (primitive_room < sites) {
+        if answer.lacks_room(listed, sites) {
             return Err(Refusal::Buffer);
         }
         if refused_with(told.aligned, Refusal::TargetRotation) {
@@ -177,15 +177,10 @@ impl Job<'_> {
     }
 
     // 2 to 12
-    pub(crate) fn whole_verdict(
-        &self,
-        listed_room: usize,
-        primitive_room: usize,
-        told: &Told,
-    ) -> Verdict
-        ensures { result ≡ whole_verdict (given_by self.now) listed_room primitive_room told.now }
+    pub(crate) fn whole_verdict(&self, answer: &Answer, told: &Told) -> Verdict
+        ensures { result ≡ whole_verdict (given_by self.now) (rooms_of (answer_cells answer.now)) told.now }
     {
         self.given_verdict()?;
-        self.work_verdict(listed_room, primitive_room, told)
+        self.work_verdict(answer, told)
     }
 }

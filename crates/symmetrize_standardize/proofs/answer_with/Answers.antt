@@ -21,7 +21,7 @@ use Rattle.base_cell.specs.Given.{orbit_cells}
 use Rattle.symmetrize_wyckoff.specs.Given.{letter_cells}
 use Rattle.symmetrize_standardize.specs.declared.verdicts.Told.{Told}
 use Rattle.symmetrize_standardize.specs.Given.{given_by, answer_cells}
-use Rattle.symmetrize_standardize.specs.Stages.{Uncleared, candidates_room, least_room, whole_verdict}
+use Rattle.symmetrize_standardize.specs.Stages.{Uncleared, candidates_room, whole_verdict}
 use Rattle.symmetrize_standardize.proofs.General.{Until}
 use Rattle.symmetrize_standardize.proofs.Ladder.{conditions, table_rooms, few_candidates, Right, whole_until}
 use Rattle.symmetrize_standardize.proofs.Parts.{listed-word, fits_kept}
@@ -79,15 +79,12 @@ right w =
 -- ---- the verdict
 
 until :
-    (w : After-whole_verdict) (v : Verdict) →
-    v ≡ whole_verdict (given w) w.least_room.result (length w.args.answer.now.primitive.now) (told w) →
+    (w : After-whole_verdict) (v : Verdict) → v ≡ whole_verdict (given w) (rooms_of (lent w)) (told w) →
     Until (conditions (given w) (rooms_of (lent w))) 12 v
 until w v e =
     let x = given w in
     let rooms = rooms_of (lent w) in
-    let is : v ≡ whole_verdict x (least_room rooms) rooms.primitive (told w) =
-    e ∙ ap (λ r. whole_verdict x r rooms.primitive (told w)) w.least_room.ensures in
-    subst (Until (conditions x rooms) 12) (sym is) (whole_until x rooms (told w) (right w))
+    subst (Until (conditions x rooms) 12) (sym e) (whole_until x rooms (told w) (right w))
 
 pub returns-in_err-whole_verdict-clause-uncleared : goal.returns-in_err-whole_verdict-clause-uncleared
 returns-in_err-whole_verdict-clause-uncleared c =
@@ -98,7 +95,7 @@ returns-in_err-whole_verdict-clause-uncleared c =
 
 -- ---- past 12
 
-passed : (w : After-whole_verdict) → Ok tt ≡ whole_verdict (given w) w.least_room.result (length w.args.answer.now.primitive.now) (told w) → Passed (conditions (given w) (rooms_of (lent w))) 12
+passed : (w : After-whole_verdict) → Ok tt ≡ whole_verdict (given w) (rooms_of (lent w)) (told w) → Passed (conditions (given w) (rooms_of (lent w))) 12
 passed w e = until w (Ok tt) e
 
 -- neither is refused
