@@ -184,23 +184,23 @@ fn answer_with(job: &Job, aligned: &mut [u8], answer: &mut Answer) -> Result<Ans
         c: job.c,
         rotations: job.conventional,
     };
-    let deformed = symmetrize_lattice(&given);
-    let diagonalised = invariant_factors(job.c);
+    let lattice = symmetrize_lattice(&given);
+    let factors = invariant_factors(job.c);
     let told = Told {
         prepared,
-        factors: diagonalised,
+        factors,
         aligned: found,
-        lattice: deformed,
+        lattice,
     };
     job.whole_verdict(answer, &told)?;
     // past the verdict neither is a refusal
-    let bases = deformed?;
-    let factors = diagonalised?;
-    let primitive_basis = bases.primitive;
+    let bases = lattice?;
+    let diagonal = factors?;
+    let primitive = bases.primitive;
     let basis = bases.listed;
-    *answer.primitive_cell_basis = primitive_basis;
+    *answer.primitive_cell_basis = primitive;
     *answer.listed_cell_basis = basis;
-    *answer.factors = factors;
+    *answer.factors = diagonal;
     let mut listing = Listing {
         positions: answer.positions,
         points: answer.points,
@@ -226,7 +226,23 @@ fn answer_with(job: &Job, aligned: &mut [u8], answer: &mut Answer) -> Result<Ans
     letter(&work, spaces, &listing, &mut orbits, answer.letters)
 }
 
-// The same over a local list for the aligned images, short where they are few, of which only the front is lent.
+// The same over a local list for the aligned images, of which only the front is lent.
+fn answer_within<const N: usize>(
+    job: &Job,
+    entries: usize,
+    answer: &mut Answer,
+) -> Result<AnswerCounts, Refusal>
+    requires { (entries ≡ images_room (length job.now.positions.now) (length job.now.rotations_of_targets.now))
+        × (entries ≤ N) × (N ≤ 24576) }
+    ensures uncleared { Uncleared (given_by job.now) (answer_cells answer.old) (answer_cells answer.new) result }
+    ensures rooms { rooms_of (answer_cells answer.new) ≡ rooms_of (answer_cells answer.old) }
+    ensures same_lists { SameAnswer answer.old answer.new }
+{
+    let mut aligned = [0u8; N];
+    answer_with(job, &mut aligned[..entries], answer)
+}
+
+// The list is short where there are few images.
 fn answer_with_room(job: &Job, answer: &mut Answer) -> Result<AnswerCounts, Refusal>
     ensures uncleared { Uncleared (given_by job.now) (answer_cells answer.old) (answer_cells answer.new) result }
     ensures rooms { rooms_of (answer_cells answer.new) ≡ rooms_of (answer_cells answer.old) }
@@ -234,11 +250,9 @@ fn answer_with_room(job: &Job, answer: &mut Answer) -> Result<AnswerCounts, Refu
 {
     let entries = verdicts::images_room(job.positions.len(), job.rotations_of_targets.len());
     if entries <= USUAL_IMAGES {
-        let mut aligned = [0u8; USUAL_IMAGES];
-        return answer_with(job, &mut aligned[..entries], answer);
+        return answer_within::<USUAL_IMAGES>(job, entries, answer);
     }
-    let mut aligned = [0u8; MOST_IMAGES];
-    answer_with(job, &mut aligned[..entries], answer)
+    answer_within::<MOST_IMAGES>(job, entries, answer)
 }
 
 // A job's standard cell with its listed sites, their labels and their letters; all zero after a refusal.

@@ -121,10 +121,7 @@ impl Job<'_> {
     fn given_verdict(&self) -> Verdict
         ensures { result ≡ given_verdict (given_by self.now) }
     {
-        if self.unlike_lists() {
-            return Err(Refusal::Counts);
-        }
-        if self.bad_counts() {
+        if self.unlike_lists() || self.bad_counts() {
             return Err(Refusal::Counts);
         }
         if self.bad_entries() {
@@ -138,8 +135,8 @@ impl Job<'_> {
 
     // ---- 5 to 12
 
-    // Into the lists of an answer. 5 is told by the aligned permutations, which test every image
-    // past 2 and 3; 8 is C's or a candidate's.
+    // Into the lists of an answer. 5 is told by the aligned permutations, which test every image past 2 and 3; 8 is C's
+    // or a candidate's.
     fn work_verdict(&self, answer: &Answer, told: &Told) -> Verdict
         requires { length self.now.positions.now ≤ 256 }
         ensures { result ≡ work_verdict self.now.t self.now.c (length self.now.positions.now)

@@ -64,17 +64,17 @@ abbrev told : After-whole_verdict → Told
 told w =
     record {
       prepared = w.prepare_all-prepared.result;
-      factors = w.invariant_factors-diagonalised.result;
+      factors = w.invariant_factors-factors.result;
       aligned = w.align_permutations-found.result;
-      lattice = w.symmetrize_lattice-deformed.result;
+      lattice = w.symmetrize_lattice-lattice.result;
     }
 
 right : (w : After-whole_verdict) → Right (given w) (told w)
 right w =
     right_of (given w) (lists (no_spaces w)) (lists (spaces w)) w.prepare_all-prepared.result (table_rooms_lem w) w.prepare_all-prepared.ensures.prepared
     w.args.aligned.now (images w) w.align_permutations-found.result w.requires w.align_permutations-found.ensures
-    w.symmetrize_lattice-deformed.result w.symmetrize_lattice-deformed.ensures
-    w.invariant_factors-diagonalised.result w.invariant_factors-diagonalised.ensures
+    w.symmetrize_lattice-lattice.result w.symmetrize_lattice-lattice.ensures
+    w.invariant_factors-factors.result w.invariant_factors-factors.ensures
 
 -- ---- the verdict
 
@@ -107,17 +107,17 @@ returns-in_err-bases-clause-uncleared c =
     let p = passed w c.in_ok-whole_verdict.ensures in
     absurd
     (lattice_unrefused x (rooms_of (lent w)) p r
-    (subst (LatticePromise x.lattice x.t x.c x.conventional) c.in_err-bases.was w.symmetrize_lattice-deformed.ensures))
+    (subst (LatticePromise x.lattice x.t x.c x.conventional) c.in_err-bases.was w.symmetrize_lattice-lattice.ensures))
 
-pub returns-in_err-factors-clause-uncleared : goal.returns-in_err-factors-clause-uncleared
-returns-in_err-factors-clause-uncleared c =
-    let w = (goal.at.returns-in_err-factors-clause-uncleared c).After-whole_verdict in
+pub returns-in_err-diagonal-clause-uncleared : goal.returns-in_err-diagonal-clause-uncleared
+returns-in_err-diagonal-clause-uncleared c =
+    let w = (goal.at.returns-in_err-diagonal-clause-uncleared c).After-whole_verdict in
     let x = given w in
-    let r = c.in_err-factors.field-0.0 in
+    let r = c.in_err-diagonal.field-0.0 in
     let p = passed w c.in_ok-whole_verdict.ensures in
     absurd
     (factors_unrefused x (rooms_of (lent w)) p r
-    (subst (FactorsPromise x.c) c.in_err-factors.was w.invariant_factors-diagonalised.ensures))
+    (subst (FactorsPromise x.c) c.in_err-diagonal.was w.invariant_factors-factors.ensures))
 
 pub list_cell-requires : goal.list_cell-requires
 list_cell-requires c =
@@ -192,15 +192,15 @@ returns-clause-uncleared c =
       primitive = c.list_cell.new.primitive;
       primitive_cell_basis = bases.primitive;
       listed_cell_basis = bases.listed;
-      factors = c.in_ok-factors.factors;
+      factors = c.in_ok-diagonal.diagonal;
     } in
     given_back x (lent w) z c.letter.result
     (answered x (lent w) z c.list_cell.ensures.listed.shape p
     (lists (no_spaces w)) (lists (spaces w)) w.prepare_all-prepared.result (table_rooms_lem w) w.prepare_all-prepared.ensures.prepared
     w.args.aligned.now (images w) w.align_permutations-found.result w.requires w.align_permutations-found.ensures
     bases.conventional
-    (subst (LatticePromise x.lattice x.t x.c x.conventional) c.in_ok-bases.was w.symmetrize_lattice-deformed.ensures)
-    (subst (FactorsPromise x.c) c.in_ok-factors.was w.invariant_factors-diagonalised.ensures)
+    (subst (LatticePromise x.lattice x.t x.c x.conventional) c.in_ok-bases.was w.symmetrize_lattice-lattice.ensures)
+    (subst (FactorsPromise x.c) c.in_ok-diagonal.was w.invariant_factors-factors.ensures)
     (images w) (images_front w p) (lists (spaces w)) (spaces-fronts w p) c.list_cell.ensures.listed c.letter.result
     (finished_by _ _ (counted w c.copies.result c.copies.ensures) (length x.positions) (length x.rotations_of_targets) (images w)
     z.mapping z.positions bases.listed x.symprec x.multiplicities x.letters (lists (spaces w)) (letter_cells (record { labels = (lent w).labels; multiplicities = (lent w).multiplicities }) (lent w).letters)
