@@ -7,12 +7,9 @@ use definitions::{
 use job::{JobLists, read_job};
 use job_standardize::standardize_bytes;
 use report_text::lines::Columns;
-use report_text::put_report;
+use report_text::{REPORT_BYTES, put_report};
 use std::io::{self, Read, Write};
 use symmetrize_standardize::{Answer, Job, standardize};
-
-// room for a report
-const REPORT: usize = 65600;
 
 // ---- a job in values and lists
 
@@ -190,7 +187,7 @@ fn show_report<R: Read, W: Write>(
     said: Result<AnswerCounts, Refusal>,
     answer: &AnswerVecs,
 ) -> io::Result<()> {
-    let mut text = [0u8; REPORT];
+    let mut text = [0u8; REPORT_BYTES];
     let columns = Columns {
         mapping: &answer.mapping,
         labels: &answer.labels,
@@ -198,7 +195,7 @@ fn show_report<R: Read, W: Write>(
         letters: &answer.letters,
     };
     let n = put_report(said, &columns, &mut text);
-    streams.show_digits(&text[..n.min(REPORT)])
+    streams.show_digits(&text[..n.min(REPORT_BYTES)])
 }
 
 pub(crate) fn run_bytes<R: Read, W: Write>(streams: &mut Streams<R, W>) -> io::Result<()> {

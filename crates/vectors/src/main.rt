@@ -1,5 +1,6 @@
 // Runs the records of standard input, one call each, and prints a line for each: the tag, what the call said, and every
-// lent cell, after a refusal too. No lent cell is zero before the call. J, j and b print lent matrices and the like
+// lent cell, after a refusal too, or what is answered by value, with zeros for it after one. No lent cell is zero before
+// the call. J, j and b print lent matrices and the like
 // before the lists; J also the report that `put_report` makes of it, its bytes in hexadecimal digits. N prints the
 // passes of each stage, and those begun behind a refusal with 8.
 //

@@ -14,45 +14,37 @@ pub(crate) trait Given: Copy {
 
 impl Given for u8 {
     fn read<R: Read, W: Write>(streams: &mut Streams<R, W>) -> io::Result<u8> {
-        let mut s = [0u8; 1];
-        streams.fill(&mut s)?;
-        Ok(s[0])
+        Ok(u8::from_le_bytes(streams.read_bytes()?))
     }
 }
 
 impl Given for i8 {
     fn read<R: Read, W: Write>(streams: &mut Streams<R, W>) -> io::Result<i8> {
-        Ok(u8::read(streams)?.cast_signed())
+        Ok(i8::from_le_bytes(streams.read_bytes()?))
     }
 }
 
 impl Given for u16 {
     fn read<R: Read, W: Write>(streams: &mut Streams<R, W>) -> io::Result<u16> {
-        let mut s = [0u8; 2];
-        streams.fill(&mut s)?;
-        Ok(u16::from_le_bytes(s))
+        Ok(u16::from_le_bytes(streams.read_bytes()?))
     }
 }
 
 impl Given for u32 {
     fn read<R: Read, W: Write>(streams: &mut Streams<R, W>) -> io::Result<u32> {
-        let mut s = [0u8; 4];
-        streams.fill(&mut s)?;
-        Ok(u32::from_le_bytes(s))
+        Ok(u32::from_le_bytes(streams.read_bytes()?))
     }
 }
 
 impl Given for i32 {
     fn read<R: Read, W: Write>(streams: &mut Streams<R, W>) -> io::Result<i32> {
-        Ok(u32::read(streams)?.cast_signed())
+        Ok(i32::from_le_bytes(streams.read_bytes()?))
     }
 }
 
 impl Given for u64 {
     fn read<R: Read, W: Write>(streams: &mut Streams<R, W>) -> io::Result<u64> {
-        let mut s = [0u8; 8];
-        streams.fill(&mut s)?;
-        Ok(u64::from_le_bytes(s))
+        Ok(u64::from_le_bytes(streams.read_bytes()?))
     }
 }
 
@@ -73,9 +65,7 @@ impl<T: Given> Given for [T; 3] {
 
 impl Given for Text {
     fn read<R: Read, W: Write>(streams: &mut Streams<R, W>) -> io::Result<Text> {
-        let mut s = [0u8; 64];
-        streams.fill(&mut s)?;
-        Ok(s)
+        streams.read_bytes()
     }
 }
 

@@ -22,12 +22,13 @@ impl<R: Read, W: Write> Streams<R, W> {
         }
     }
 
-    // as far as the input goes: the rest of the buffer stays as it was
-    pub(crate) fn fill(&mut self, buffer: &mut [u8]) -> io::Result<()> {
-        for (cell, byte) in buffer.iter_mut().zip(self.input.by_ref().bytes()) {
+    // So many bytes; 0 past the end of the input.
+    pub(crate) fn read_bytes<const N: usize>(&mut self) -> io::Result<[u8; N]> {
+        let mut bytes = [0u8; N];
+        for (cell, byte) in bytes.iter_mut().zip(self.input.by_ref().bytes()) {
             *cell = byte?;
         }
-        Ok(())
+        Ok(bytes)
     }
 
     pub(crate) fn read<T: Given>(&mut self) -> io::Result<T> {
@@ -66,11 +67,8 @@ impl<R: Read, W: Write> Streams<R, W> {
 
     // Lent cells, no one of them zero: the record has their number.
     pub(crate) fn lend<T: Shown>(&mut self) -> io::Result<Vec<T>> {
-        let mut cells = Vec::new(self.alloc);
-        for _ in 0..self.read_number()? {
-            cells.push(T::SEVEN)?;
-        }
-        Ok(cells)
+        let n = self.read_number()?;
+        Ok(vec![in self.alloc; T::SEVEN; n]?)
     }
 
     pub(crate) fn print(&mut self, text: &str) -> io::Result<()> {
