@@ -9,7 +9,9 @@ ghost use Rattle.definitions.specs.Limits.{position_within, good_symprec, not_so
 ghost use Rattle.definitions.specs.Lent.{cells_within};
 ghost use Rattle.checks.specs.Entries.{small_entry, at_most};
 
-use definitions::limits::{LATTICE_LIMIT, MOST_COPIES, MOST_OPERATIONS, POSITION_LIMIT};
+use definitions::limits::{
+    LATTICE_LIMIT, MOST_COPIES, MOST_OPERATIONS, POSITION_LIMIT, SYMPREC_LIMIT,
+};
 use definitions::{Basis, Cells, Linear, Position, Rotation};
 use math_matrix::{determinant, widened};
 
@@ -73,7 +75,7 @@ pub fn all_cells_within(ps: &[Cells]) -> bool
 pub fn good_symprec(s: f64) -> bool
     ensures { result ≡ good_symprec s }
 {
-    0.0 < s && within(s, POSITION_LIMIT)
+    0.0 < s && within(s, SYMPREC_LIMIT)
 }
 
 // |det c|: the number of copies of a site

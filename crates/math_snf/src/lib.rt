@@ -24,7 +24,8 @@ use definitions::{Linear, Passes, Refusal, SnfMatrix, Stages};
 use line::{FIRST, Line, SECOND, THIRD};
 use math_matrix::widened;
 
-// Past the key of every place. A number and no Option, so that the least of two keys is had without a branch.
+// Past the key of every place. A number and no Option: the least of two numbers is `min`, of two Options a match of
+// their cases, for here none comes last.
 const NO_KEY: usize = 1000000;
 
 const UNIT: SnfMatrix = [[1, 0, 0], [0, 1, 0], [0, 0, 1]];
@@ -43,8 +44,8 @@ fn is_small(x: i16) -> bool
     within(i64::from(x))
 }
 
-// 512 stands for a number that has left -511..511: a line is written whole and then tested once, with no Option for
-// each entry.
+// 512 stands for a number that has left -511..511. No Option is plainer: a line is written whole, beside entries that
+// stay, and then tested once; by Options a matrix would be handed on that is written in part.
 #[tactic(auto, unfolding(crate::specs::Step::kept))]
 fn kept_entry(x: i64) -> i16
     ensures { result ≡ kept x }
