@@ -31,6 +31,22 @@ struct Root {
     rem: u64,
 }
 
+// what the root is taken of: at most 54 binary digits
+#[derive(Clone, Copy)]
+struct Radicand {
+    w: u64,
+
+    ghost below: { w < 2 ^ 54 },
+}
+
+// the first half of the root's binary digits, 27 of them
+#[derive(Clone, Copy)]
+struct Half {
+    s: u64,
+
+    ghost digits: { (2 ^ 26 ≤ s) × (s < 2 ^ 27) },
+}
+
 // one more digit of the root: two more binary digits d of the number
 fn root_step(a: Root, d: u64) -> Root
     requires { (a.q < 2 ^ 60) × (a.rem ≤ 2 * a.q) × (d < 4) }
@@ -49,75 +65,77 @@ fn root_step(a: Root, d: u64) -> Root
     Root { q: 2 * q, rem: t }
 }
 
-// the 54 digits of the root of w * 4^27: w's own pairs of digits, then zeros
-fn root_digits(w: u64) -> u64
-    requires { w < 2 ^ 54 }
-    ensures value { result ≡ root_cut 54 (w * 4 ^ 27) }
-    ensures upper_bound { result < 2 ^ 54 }
-{
-    let mut a = Root { q: 0, rem: 0 };
-    let mut rest = w;
-    for _ in 0..DIGITS {
-        a = root_step(a, rest / FIRST);
-        rest = rest % FIRST * 4;
-    }
-    a.q
-}
-
 // one step of Heron's method towards the root of 2h; of the guess nothing is proved, as `root_guessed` tries it
 fn heron(h: f64, a: f64) -> f64 {
     0.5 * a + h / a
 }
 
 // 27 digits of a float from 1 to 2; of any other float some 27 digits
-fn first_digits(g: f64) -> u64
-    ensures { (2 ^ 26 ≤ result) × (result < 2 ^ 27) }
-{
+fn first_digits(g: f64) -> Half {
     if g < 2.0 {
-        return LEAST + g.to_bits() % FIRST / LEAST;
+        return Half {
+            s: LEAST + g.to_bits() % FIRST / LEAST,
+        };
     }
-    ABOVE - 1
+    Half { s: ABOVE - 1 }
 }
 
-// a guess at the 27 digits of w's root, for a w from 2^52: a hair too high, lest the root of a square come out one too
-// low
-fn guess_half(w: u64) -> u64
-    requires { w < 2 ^ 54 }
-    ensures { (2 ^ 26 ≤ result) × (result < 2 ^ 27) }
-{
-    let h = (w / 2) as f64 / 4503599627370496.0;
-    let a = heron(h, heron(h, 0.6862915 * (1.0 + h)));
-    first_digits(heron(h * 1.0000000000004, a))
-}
-
-// from the first 27 digits s of the root, and what is left, the other 27
-fn second_half(s: u64, r: u64) -> u64
-    requires { (2 ^ 26 ≤ s) × (s < 2 ^ 27) × (r ≤ 2 * s) }
-    ensures { Cut ((s * s + r) * 4 ^ 27) result }
-{
-    let v = r * LEAST;
-    let d = v / s;
-    let q = s * ABOVE + d;
-    if d * d <= v % s * (2 * ABOVE) {
-        return q;
-    }
-    q - 1
-}
-
-// the same 54 digits, sooner where the guess is right
-fn root_guessed(w: u64) -> u64
-    requires { w < 2 ^ 54 }
-    ensures value { result ≡ root_cut 54 (w * 4 ^ 27) }
-    ensures upper_bound { result < 2 ^ 54 }
-{
-    let s = guess_half(w);
-    if s * s <= w {
-        let r = w - s * s;
-        if r <= 2 * s {
-            return second_half(s, r);
+impl Half {
+    // from this half, and what is left, the other 27 digits
+    fn second_half(self, r: u64) -> u64
+        requires { r ≤ 2 * self.s }
+        ensures { Cut ((self.s * self.s + r) * 4 ^ 27) result }
+    {
+        let s = self.s;
+        let v = r * LEAST;
+        let d = v / s;
+        let q = s * ABOVE + d;
+        if d * d <= v % s * (2 * ABOVE) {
+            return q;
         }
+        q - 1
     }
-    root_digits(w)
+}
+
+impl Radicand {
+    // a guess at the 27 digits of w's root, for a w from 2^52: a hair too high, lest the root of a square come out one
+    // too low
+    fn guess_half(self) -> Half {
+        let h = (self.w / 2) as f64 / 4503599627370496.0;
+        let a = heron(h, heron(h, 0.6862915 * (1.0 + h)));
+        first_digits(heron(h * 1.0000000000004, a))
+    }
+
+    // the 54 digits of the root of w * 4^27: w's own pairs of digits, then zeros
+    fn root_digits(self) -> u64
+        ensures value { result ≡ root_cut 54 (self.w * 4 ^ 27) }
+        ensures upper_bound { result < 2 ^ 54 }
+    {
+        let mut a = Root { q: 0, rem: 0 };
+        let mut rest = self.w;
+        for _ in 0..DIGITS {
+            a = root_step(a, rest / FIRST);
+            rest = rest % FIRST * 4;
+        }
+        a.q
+    }
+
+    // the same 54 digits, sooner where the guess is right
+    fn root_guessed(self) -> u64
+        ensures value { result ≡ root_cut 54 (self.w * 4 ^ 27) }
+        ensures upper_bound { result < 2 ^ 54 }
+    {
+        let w = self.w;
+        let half = self.guess_half();
+        let s = half.s;
+        if s * s <= w {
+            let r = w - s * s;
+            if r <= 2 * s {
+                return half.second_half(r);
+            }
+        }
+        self.root_digits()
+    }
 }
 
 // the pattern of the root, for the significand t and the exponent's field y - 1073
@@ -126,7 +144,8 @@ fn root_pattern(t: u64, y: u64) -> u64
     ensures value { result ≡ root_pattern t y }
     ensures upper_bound { result < 0x7FF0000000000000 }
 {
-    let q = root_guessed(t * (y % 2 + 1));
+    let radicand = Radicand { w: t * (y % 2 + 1) };
+    let q = radicand.root_guessed();
     (y / 2 - 26) * FIRST + (q + 1) / 2
 }
 
