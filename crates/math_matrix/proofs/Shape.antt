@@ -9,6 +9,7 @@ use lib.Pow.{pow_pos}
 use lib.IntN.{ℤ, pos}
 use mir.Syntax.{Width}
 use mir.Val.{Val, SFits, hbits}
+use denote.RattleType.{RattleType}
 use denote.Array.{Array, each}
 use denote.Shadow.{shadow}
 use denote.Signed.{SInt}
@@ -16,11 +17,11 @@ use Rattle.definitions.specs.Matrix.{Matrix, at, item}
 use Rattle.math_matrix.specs.Laws.{Three, three_rows}
 use Rattle.math_matrix.specs.Bounds.{fits_of}
 
-row-length : (w : Width) (m : Matrix) (us : List Val) → shadow (each (List ℤ) (Array (SInt w) 3).own_val m us) → (i : ℕ) → i < length m → length (get_or m i []) ≡ 3
-row-length w [] us h i l = absurd (omega arith)
-row-length w (r ∷ m) [] h i l = absurd h
-row-length w (r ∷ m) (u ∷ us) h zero l = h.0.1.0.1
-row-length w (r ∷ m) (u ∷ us) h (suc i) l = row-length w m us h.1 i (le_of_suc-le-suc l)
+pub row-length : (R : RattleType) (m : List (List R.Denot)) (us : List Val) → shadow (each (List R.Denot) (Array R 3).own_val m us) → (i : ℕ) → i < length m → length (get_or m i []) ≡ 3
+row-length R [] us h i l = absurd (omega arith)
+row-length R (r ∷ m) [] h i l = absurd h
+row-length R (r ∷ m) (u ∷ us) h zero l = h.0.1.0.1
+row-length R (r ∷ m) (u ∷ us) h (suc i) l = row-length R m us h.1 i (le_of_suc-le-suc l)
 
 -- past the end stands 0
 items_fit : (w : Width) (r : List ℤ) (us : List Val) → shadow (each ℤ (SInt w).own_val r us) → (j : ℕ) → SFits w (item r j)
@@ -42,7 +43,7 @@ module _ (w : Width) (m : Matrix) {X : List Val → Type 0} (good : (us : List V
   pub good_three : Three m
   good_three =
       let e = good.1.0.1 in
-      three_rows m e (λ i l. row-length w m good.0 good.1.1 i (omega arith))
+      three_rows m e (λ i l. row-length (SInt w) m good.0 good.1.1 i (omega arith))
 
   pub good_entry : (i j : ℕ) → SFits w (at m i j)
   good_entry = entries_fit w m good.0 good.1.1

@@ -135,11 +135,17 @@ of_length (a ∷ b ∷ []) d e = absurd (omega arith)
 of_length (a ∷ b ∷ c ∷ []) d e = refl
 of_length (a ∷ b ∷ c ∷ x ∷ l) d e = absurd (omega arith)
 
--- three lists of three numbers are such a matrix
-pub three_rows : (m : Matrix) → length m ≡ 3 → ((i : ℕ) → i < 3 → length (get_or m i []) ≡ 3) → Three m
-three_rows m h g =
+-- three lists of three are such a matrix, of whatever type; z is what a row has past its end
+pub three_rows_by :
+    {A : Type 0} (z : A) (m : List (List A)) → length m ≡ 3 → ((i : ℕ) → i < 3 → length (get_or m i []) ≡ 3) →
+    m ≡ mat (λ i j. get_or (get_or m i []) j z)
+three_rows_by z m h g =
     of_length m [] h
-    ∙ three_eq (λ i. get_or m i []) (λ i. three (at m i))
-    (of_length (get_or m 0 []) (pos 0) (g 0 (lit< tt)))
-    (of_length (get_or m 1 []) (pos 0) (g 1 (lit< tt)))
-    (of_length (get_or m 2 []) (pos 0) (g 2 (lit< tt)))
+    ∙ three_eq (λ i. get_or m i []) (λ i. three (λ j. get_or (get_or m i []) j z))
+    (of_length (get_or m 0 []) z (g 0 (lit< tt)))
+    (of_length (get_or m 1 []) z (g 1 (lit< tt)))
+    (of_length (get_or m 2 []) z (g 2 (lit< tt)))
+
+-- three lists of three numbers
+pub three_rows : (m : Matrix) → length m ≡ 3 → ((i : ℕ) → i < 3 → length (get_or m i []) ≡ 3) → Three m
+three_rows m h g = three_rows_by (pos 0) m h g

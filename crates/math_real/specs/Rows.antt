@@ -66,13 +66,14 @@ cross_over u v d =
     ∷ div binary64 (minor_f (item u 0) (item v 1) (item u 1) (item v 0)) d
     ∷ []
 
--- entries as floats, each by f; z is what a row has past its end
-abbrev pub real_row : {A : Type 0} → (A → Float) → A → List A → List Float
-real_row f z r = three (λ j. f (get_or r j z))
-
--- of whole numbers, by `real_of`, this is `real`
+-- the matrix m, each entry by f; z is what a row has past its end
 abbrev pub real_by : {A : Type 0} → (A → Float) → A → List (List A) → RealMatrix
 real_by f z m = mat (λ i j. f (get_or (get_or m i []) j z))
 
-pub real_by_lem : (m : Matrix) → real_by real_of (pos 0) m ≡ real m
-real_by_lem m = refl
+-- r is the matrix m with each entry as the float that `gives` says, where it says but one
+pub record IsReal {A : Type 0} (gives : A → Float → Type 0) (m : List (List A)) (r : RealMatrix) : Type 0 where
+  pub entries : (f : A → Float) (z : A) → ((x : A) (y : Float) → gives x y → y ≡ f x) → r ≡ real_by f z m
+
+-- of whole numbers it is this matrix
+pub real_is : {m : Matrix} {r : RealMatrix} → IsReal (λ x y. y ≡ real_of x) m r → r ≡ real m
+real_is h = h.entries real_of (pos 0) (λ x y e. e)

@@ -13,7 +13,7 @@ use Rattle.math_matrix.specs.Bounds.{abs_fits}
 use Rattle.math_matrix.proofs.Shape.{good_entry}
 use Rattle.math_matrix.proofs.Sizes.{det-abs}
 use Rattle.math_matrix.proofs.Sums.{read, told}
-use Rattle.math_real.specs.Rows.{divide_m}
+use Rattle.math_real.specs.Rows.{divide_m, real_is}
 use Rattle.math_real.proofs.whole.inverse_of_c.Goals as goal
 use Rattle.math_real.proofs.whole.inverse_of_c.Goals.{After-determinant-d}
 
@@ -32,5 +32,5 @@ int_to_float-d c =
 
 pub returns : goal.returns
 returns c =
-    let cofactors = c.real-a.ensures ∙ ap real (c.adjugate.ensures ∙ ap adjugate c.widened-m.ensures) in
+    let cofactors = real_is c.real-a.ensures ∙ ap real (c.adjugate.ensures ∙ ap adjugate c.widened-m.ensures) in
     c.divide.ensures ∙ (λ i. divide_m (cofactors i) (real_of (number c.before.before.before.before i)))
