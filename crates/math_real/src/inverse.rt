@@ -9,26 +9,16 @@ use math_matrix::transposed;
 pub fn determinant(m: Basis) -> f64
     ensures { result ≡ det_f m }
 {
-    let m10 = m[1][0];
-    let m11 = m[1][1];
-    let m12 = m[1][2];
-    let m20 = m[2][0];
-    let m21 = m[2][1];
-    let m22 = m[2][2];
-    m[0][0] * (m11 * m22 - m21 * m12) - m[0][1] * (m10 * m22 - m20 * m12)
-        + m[0][2] * (m10 * m21 - m20 * m11)
+    let [[m00, m01, m02], [m10, m11, m12], [m20, m21, m22]] = m;
+    m00 * (m11 * m22 - m21 * m12) - m01 * (m10 * m22 - m20 * m12) + m02 * (m10 * m21 - m20 * m11)
 }
 
 // the cofactors of a column, by the two columns that follow it, over d
 fn cross_over(u: [f64; 3], v: [f64; 3], d: f64) -> [f64; 3]
     ensures { result ≡ cross_over u v d }
 {
-    let u0 = u[0];
-    let u1 = u[1];
-    let u2 = u[2];
-    let v0 = v[0];
-    let v1 = v[1];
-    let v2 = v[2];
+    let [u0, u1, u2] = u;
+    let [v0, v1, v2] = v;
     [
         (u1 * v2 - u2 * v1) / d,
         (u2 * v0 - u0 * v2) / d,

@@ -1,6 +1,6 @@
 // Matrices row by row: product, sum, quotient, the third row's sign, whether all entries are finite.
 ghost use Rattle.std.specs.Prelude.{◌≡◌};
-ghost use Rattle.definitions.specs.Real.{mul_f, add_m, is_finite};
+ghost use Rattle.definitions.specs.Real.{mul_f, add_m};
 ghost use Rattle.math_real.specs.Rows.{row_times, add_row, divide_row, divide_m};
 ghost use Rattle.math_real.specs.Rows.{negate_third_row, finite_row, all_finite};
 
@@ -9,9 +9,7 @@ use definitions::Basis;
 fn row_times(a: [f64; 3], b: Basis) -> [f64; 3]
     ensures { result ≡ row_times a b }
 {
-    let a0 = a[0];
-    let a1 = a[1];
-    let a2 = a[2];
+    let [a0, a1, a2] = a;
     [
         a0 * b[0][0] + a1 * b[1][0] + a2 * b[2][0],
         a0 * b[0][1] + a1 * b[1][1] + a2 * b[2][1],
@@ -64,16 +62,10 @@ pub fn negate_third_row(m: Basis) -> Basis
     [m[0], m[1], m[2].map(|x| -x)]
 }
 
-fn finite(x: f64) -> bool
-    ensures { result ≡ is_finite x }
-{
-    x.is_finite()
-}
-
 fn row_finite(a: [f64; 3]) -> bool
     ensures { result ≡ finite_row a }
 {
-    a.iter().all(|x| finite(*x))
+    a.iter().all(|x| x.is_finite())
 }
 
 pub fn all_finite(m: Basis) -> bool
