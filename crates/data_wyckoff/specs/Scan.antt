@@ -1,5 +1,5 @@
 -- A term's bytes to its sums, byte by byte: what the reader's code computes.
-use Rattle.std.specs.Prelude.{ℕ, suc, ◌≤◌, ◌<◌, ◌≡◌, Bool, true, false, cond, List, [], ◌∷◌, leb, eqb, ℤ, pos, neg_ℤ, nat_abs, ◌+ℤ◌, length, get_or, drop, Float, Option, Some, None, option_and_then}
+use Rattle.std.specs.Prelude.{ℕ, suc, ◌≤◌, Bool, true, false, cond, List, [], ◌∷◌, leb, eqb, ℤ, pos, neg_ℤ, nat_abs, ◌+ℤ◌, drop, Float, Option, Some, None, option_and_then}
 use Rattle.std.proofs.Math.Option as Tokens
 use Rattle.std.specs.Float.{binary64}
 use Rattle.std.specs.Float.Ieee.{add, div}
@@ -121,12 +121,6 @@ term_from i t (b ∷ bs) =
 
 abbrev pub term_at : List ℕ → ℕ → Option Row
 term_at text i = term_from i (empty_at Nothing) (drop i text)
-
--- the place j is the first from i on that has no space: a term read from either is the same
-pub record NoSpace (text : List ℕ) (i j : ℕ) : Type 0 where
-  pub forth : i ≤ j
-  pub stop : j < length text → get_or text j 0 ≡ 32 → ⊥
-  pub same : (t : Partial) → term_from i t (drop i text) ≡ term_from j t (drop j text)
 
 -- ---- how large the sums are
 

@@ -8,7 +8,7 @@ ghost use Rattle.definitions.specs.Real.{real_of};
 ghost use Rattle.definitions.specs.SiteCalls.{CoordinatesPromise};
 ghost use Rattle.data_wyckoff.specs.declared.Last.TheVariants.{Nothing};
 ghost use Rattle.data_wyckoff.specs.Scan as Scan;
-ghost use Rattle.data_wyckoff.specs.Scan.{Small, NoSpace, empty_at, axis_at, plus_axis, plus_constant};
+ghost use Rattle.data_wyckoff.specs.Scan.{Small, empty_at, axis_at, plus_axis, plus_constant};
 ghost use Rattle.data_wyckoff.specs.Scan.{axis_after, digit_after, slash_after, sign_after, step_of};
 ghost use Rattle.data_wyckoff.specs.Scan.{row_of, end_of, term_at};
 ghost use Rattle.data_wyckoff.specs.Terms.{entries_of, ReadAs};
@@ -241,30 +241,20 @@ impl Row {
 
 // ---- a text
 
-// The first place from one on that has no space; that one itself, past the end.
-fn no_space(text: &[u8], from: usize) -> usize
-    ensures { NoSpace text.now from result }
-{
-    let rest = &text[from.min(text.len())..];
-    from + rest.iter().position(|b| *b != b' ').unwrap_or(rest.len())
-}
-
-// The term that begins at a place and ends at a comma or the end. No `for`: `no_space` says where the next byte is.
+// The term that begins at a place and ends at a comma or the end; spaces are left out.
 fn read_term(text: &[u8], from: usize) -> Option<Row>
     requires { length text.now ≤ 64 }
     ensures { result ≡ term_at text.now from }
 {
     let mut t = Partial::empty();
-    let mut i = no_space(text, from);
-    while i < text.len() {
-        let b = text[i];
-        if b == b',' {
-            return t.ended(i);
+    for i in from..text.len() {
+        match text[i] {
+            b' ' => {}
+            b',' => return t.ended(i),
+            b => t = t.step(b)?,
         }
-        t = t.step(b)?;
-        i = no_space(text, i + 1);
     }
-    t.ended(i)
+    t.ended(text.len())
 }
 
 // Three terms, and no comma behind the third. By value: of an array behind a reference no proof knows the length.
