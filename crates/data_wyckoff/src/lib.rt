@@ -155,13 +155,10 @@ impl Partial {
         match self.last {
             Last::Nothing => Some(self.behind(Last::Digit(false, k))),
             Last::Sign(minus) => Some(self.behind(Last::Digit(minus, k))),
-            Last::Slash(minus, n) => {
-                if k == 0 {
-                    return None;
-                }
+            Last::Slash(minus, n) if k != 0 => {
                 Some(self.plus_constant(Last::Ended, real(minus, n) / real(false, k)))
             }
-            Last::Digit(_, _) | Last::Ended => None,
+            Last::Digit(_, _) | Last::Slash(_, _) | Last::Ended => None,
         }
     }
 
@@ -179,15 +176,10 @@ impl Partial {
         ensures { result ≡ sign_after self.last minus self }
     {
         match self.last {
-            Last::Nothing => {
-                if minus {
-                    return Some(self.behind(Last::Sign(true)));
-                }
-                None
-            }
+            Last::Nothing if minus => Some(self.behind(Last::Sign(true))),
             Last::Digit(m, n) => Some(self.plus_constant(Last::Sign(minus), real(m, n))),
             Last::Ended => Some(self.behind(Last::Sign(minus))),
-            Last::Sign(_) | Last::Slash(_, _) => None,
+            Last::Nothing | Last::Sign(_) | Last::Slash(_, _) => None,
         }
     }
 
