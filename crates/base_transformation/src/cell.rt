@@ -129,18 +129,30 @@ fn list_elements(elements: &[i32], m: usize, out: &mut [i32])
     list_runs(elements.len(), m, out, |i, _| elements[i]);
 }
 
-// ---- what there is room for
+// ---- the primitive sites
 
-fn bad_counts(n: usize, elements: usize) -> bool
-    ensures { result ≡ (too_many_sites n || unlike elements n) }
-{
-    MOST_SITES < n || elements != n
+// The primitive sites, as they are lent: an element and a position a site.
+#[derive(Clone, Copy)]
+pub struct PrimitiveSites<'a> {
+    pub elements: &'a [i32],
+    pub positions: &'a [Cells],
 }
 
-fn can_list(n: usize, elements: usize, m: usize, rooms: Rooms) -> bool
-    ensures { result ≡ listable n elements m rooms }
-{
-    !bad_counts(n, elements) && m <= MOST_COPIES && !lacks_room(n * m, rooms)
+impl PrimitiveSites<'_> {
+    // too many, or not as many elements as positions
+    fn bad_counts(&self) -> bool
+        ensures { result ≡ (too_many_sites (length self.now.positions.now)
+            || unlike (length self.now.elements.now) (length self.now.positions.now)) }
+    {
+        MOST_SITES < self.positions.len() || self.elements.len() != self.positions.len()
+    }
+
+    // whether there may be m copies of each, and the lists have room for them
+    fn can_list(&self, m: usize, rooms: Rooms) -> bool
+        ensures { result ≡ listable (length self.now.positions.now) (length self.now.elements.now) m rooms }
+    {
+        !self.bad_counts() && m <= MOST_COPIES && !lacks_room(self.positions.len() * m, rooms)
+    }
 }
 
 // ---- the four lists
@@ -180,53 +192,45 @@ impl Listing<'_> {
 
 // ---- the calls
 
-// The elements and positions of the primitive sites stay two lists here: both public calls are lent them apart, and a
-// struct would be made for one use in each.
-
 // moyo's `transform_cell` at given points: nothing where the lists have no room
-pub fn list_copies(
-    c: Linear,
-    points: &[Point],
-    elements: &[i32],
-    positions: &[Cells],
-    listing: &mut Listing,
-)
-    ensures listed { CopiesListed c points.now elements.now positions.now (held listing.old) (held listing.new) }
+pub fn list_copies(c: Linear, points: &[Point], sites: &PrimitiveSites, listing: &mut Listing)
+    ensures listed { CopiesListed c points.now sites.now.elements.now sites.now.positions.now
+        (held listing.old) (held listing.new) }
     ensures rooms { SameRooms (held listing.old) (held listing.new) }
     ensures same_lists { SameLists listing.old listing.new }
 {
-    let n = positions.len();
+    let n = sites.positions.len();
     let m = points.len();
-    if can_list(n, elements.len(), m, listing.rooms()) {
-        list_positions(inverse_of_c(c), points, positions, listing.positions);
+    if sites.can_list(m, listing.rooms()) {
+        list_positions(inverse_of_c(c), points, sites.positions, listing.positions);
         list_run_points(points, n, listing.points);
         list_mapping(n, m, listing.mapping);
-        list_elements(elements, m, listing.elements);
+        list_elements(sites.elements, m, listing.elements);
     } else {
         listing.clear();
     }
 }
 
 // 2, 3, 4, 7, 8, 9, 10
-fn diagonalise_for(
+fn diagonalise_for_sites(
     c: Linear,
-    elements: &[i32],
-    positions: &[Cells],
+    sites: &PrimitiveSites,
     rooms: Rooms,
 ) -> Result<SmithForm, Refusal>
-    ensures { Returns (list_conditions c elements.now positions.now rooms) (IsSnf c) (outcome state_of result) }
+    ensures { Returns (list_conditions c sites.now.elements.now sites.now.positions.now rooms) (IsSnf c)
+        (outcome state_of result) }
 {
-    if bad_counts(positions.len(), elements.len()) {
+    if sites.bad_counts() {
         return Err(Refusal::Counts);
     }
     if !in_range(c) {
         return Err(Refusal::MatrixEntry);
     }
-    if !all_cells_within(positions) {
+    if !all_cells_within(sites.positions) {
         return Err(Refusal::FloatRange);
     }
     let form = diagonalise(c)?;
-    let listed = positions.len() * copies(c);
+    let listed = sites.positions.len() * copies(c);
     if MOST_LISTED < listed {
         return Err(Refusal::ListedSites);
     }
@@ -237,15 +241,9 @@ fn diagonalise_for(
 }
 
 // the copies at the points of the diagonalisation
-fn list_all(
-    c: Linear,
-    form: SmithForm,
-    elements: &[i32],
-    positions: &[Cells],
-    listing: &mut Listing,
-)
+fn list_all(c: Linear, form: SmithForm, sites: &PrimitiveSites, listing: &mut Listing)
     requires { (Ready form.d most_copies) × (length (points (state_of form)) ≡ Limits.copies c) }
-    ensures listed { CopiesListed c (points (state_of form)) elements.now positions.now
+    ensures listed { CopiesListed c (points (state_of form)) sites.now.elements.now sites.now.positions.now
         (held listing.old) (held listing.new) }
     ensures rooms { SameRooms (held listing.old) (held listing.new) }
     ensures same_lists { SameLists listing.old listing.new }
@@ -253,23 +251,19 @@ fn list_all(
     let mut points = [Point::ZERO; MOST_COPIES];
     list_points(form, &mut points);
     let m = copies(c);
-    list_copies(c, &points[..m], elements, positions, listing);
+    list_copies(c, &points[..m], sites, listing);
 }
 
 // moyo's `transform_cell` at no change of origin: the copies of given positions
-pub fn list_sites(
-    c: Linear,
-    elements: &[i32],
-    positions: &[Cells],
-    listing: &mut Listing,
-) -> Verdict
-    ensures listed { ListPromise c elements.now positions.now (held listing.old) (held listing.new) result }
+pub fn list_sites(c: Linear, sites: &PrimitiveSites, listing: &mut Listing) -> Verdict
+    ensures listed { ListPromise c sites.now.elements.now sites.now.positions.now
+        (held listing.old) (held listing.new) result }
     ensures rooms { SameRooms (held listing.old) (held listing.new) }
     ensures same_lists { SameLists listing.old listing.new }
 {
-    match diagonalise_for(c, elements, positions, listing.rooms()) {
+    match diagonalise_for_sites(c, sites, listing.rooms()) {
         Ok(form) => {
-            list_all(c, form, elements, positions, listing);
+            list_all(c, form, sites, listing);
             Ok(())
         }
         Err(refusal) => {

@@ -11,6 +11,6 @@ pub returns-clause-listed : goal.returns-clause-listed
 returns-clause-listed c =
     let a = c.args in
     subst
-    (λ (fs : List (List ℤ)). CopiesListed a.c fs a.elements.now a.positions.now (held a.listing.now) (held c.list_copies.new.listing))
+    (λ (fs : List (List ℤ)). CopiesListed a.c fs a.sites.now.elements.now a.sites.now.positions.now (held a.listing.now) (held c.list_copies.new.listing))
     (front_is (points (state_of a.form)) c.list_points.new.out 64 c.copies-m.result c.list_points.ensures (c.requires.1 ∙ sym c.copies-m.ensures))
     c.list_copies.ensures.listed

@@ -15,13 +15,13 @@ module _ (c : Then-can_list) where
   start = (goal.at.Then-can_list c).Start
 
   -- what the test says of the lists
-  can : let a = start.args in listable (length a.positions.now) (length a.elements.now) (length a.points.now) (listing_rooms (lent start)) ≡ true
+  can : let a = start.args in listable (length a.sites.now.positions.now) (length a.sites.now.elements.now) (length a.points.now) (listing_rooms (lent start)) ≡ true
   can =
       let a = start.args in
-      sym (c.can_list.ensures ∙ ap (listable (length a.positions.now) (length a.elements.now) (length a.points.now)) c.rooms.ensures) ∙ c.if-can_list.true
+      sym (c.can_list.ensures ∙ ap (listable (length a.sites.now.positions.now) (length a.sites.now.elements.now) (length a.points.now)) c.rooms.ensures) ∙ c.if-can_list.true
 
-  room : let a = start.args in Roomy (length a.positions.now) (length a.elements.now) (length a.points.now) (lent start)
-  room = let a = start.args in roomy (length a.positions.now) (length a.elements.now) (length a.points.now) (lent start) can
+  room : let a = start.args in Roomy (length a.sites.now.positions.now) (length a.sites.now.elements.now) (length a.points.now) (lent start)
+  room = let a = start.args in roomy (length a.sites.now.positions.now) (length a.sites.now.elements.now) (length a.points.now) (lent start) can
 
 pub list_positions-requires : goal.list_positions-requires
 list_positions-requires c = (room (goal.at.list_positions-requires c).Then-can_list).positions
@@ -41,7 +41,7 @@ pub returns-then-can_list-clause-listed : goal.returns-then-can_list-clause-list
 returns-then-can_list-clause-listed c =
     let a = c.args in
     let t = (goal.at.returns-then-can_list-clause-listed c).Then-can_list in
-    copies-listed a.c a.points.now a.elements.now a.positions.now (lent (start t))
+    copies-listed a.c a.points.now a.sites.now.elements.now a.sites.now.positions.now (lent (start t))
     (lists c.list_positions.new.out c.list_run_points.new.out c.list_mapping.new.mapping c.list_elements.new.out)
     c.inverse_of_c.result (can t) c.inverse_of_c.ensures
     c.list_positions.ensures c.list_run_points.ensures c.list_mapping.ensures c.list_elements.ensures

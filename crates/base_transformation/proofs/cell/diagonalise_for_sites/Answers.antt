@@ -14,13 +14,13 @@ use Rattle.laws.specs.Verdicts.{HoldsAt, Passed, pass, found_at_lem, found_none,
 use Rattle.laws.specs.Verdicts.{accepted_with, refused_with_lem, passed_on}
 use Rattle.math_snf.specs.Step.{state_of}
 use Rattle.base_transformation.specs.Answers.{Diagonalised}
-use Rattle.base_transformation.proofs.cell.diagonalise_for.Goals as goal
-use Rattle.base_transformation.proofs.cell.diagonalise_for.Goals.{Else-bad_counts, Else-not-all_cells_within, Else-not-in_range, Start}
+use Rattle.base_transformation.proofs.cell.diagonalise_for_sites.Goals as goal
+use Rattle.base_transformation.proofs.cell.diagonalise_for_sites.Goals.{Else-bad_counts, Else-not-all_cells_within, Else-not-in_range, Start}
 
 abbrev conditions : Start → List Condition
 conditions s =
     let a = s.args in
-    list_conditions a.c a.elements.now a.positions.now a.rooms
+    list_conditions a.c a.sites.now.elements.now a.sites.now.positions.now a.rooms
 
 -- ---- past each test
 
@@ -62,7 +62,7 @@ module _ (c : Else-not-all_cells_within) where
   -- past `diagonalise`, where m copies are counted
   module _ (good : bad_copies start₃.args.c ≡ false) (stays : Leaves start₃.args.c → ⊥) {m : ℕ} (count : m ≡ copies start₃.args.c) where
     abbrev sites : ℕ
-    sites = length start₃.args.positions.now
+    sites = length start₃.args.sites.now.positions.now
 
     past₅ : Passed (conditions start₃) 5
     unfolding HoldsAt
