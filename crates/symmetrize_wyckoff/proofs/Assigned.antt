@@ -6,7 +6,7 @@ use mathlib.Core.List.{List, [], ◌∷◌, ◌++◌, map}
 use mathlib.Core.Option.{Option, none, some}
 use native.Mathlib.Omega.{arith}
 use lib.ListN.{length, get_or, drop, length-map}
-use Rattle.definitions.specs.Limits.{most_candidates, most_listed}
+use Rattle.definitions.specs.Limits.{most_listed}
 use Rattle.definitions.specs.Lists.{all}
 use Rattle.definitions.specs.Refusal.{Holds, Verdict, padded}
 use Rattle.definitions.specs.Transformation.{is_none}
@@ -14,11 +14,8 @@ use Rattle.definitions.specs.Wyckoff.{letter_of, letter_or, letters}
 use Rattle.definitions.specs.SiteCalls.{AssignArguments, sites_in, assignable, all_lettered, Assigned}
 use Rattle.base_cell.specs.Grouping.{Below}
 use Rattle.laws.specs.Filling.{cut, padded_by}
-use Rattle.symmetrize_match.specs.declared.RealSpace.{RealSpace}
-use Rattle.symmetrize_wyckoff.specs.Walk.{walked}
-use Rattle.symmetrize_wyckoff.specs.Prepared.{RealCandidates, found_by, IsPrepared, PutSpaces, Assignable}
-use Rattle.symmetrize_wyckoff.specs.Prepared.{walked-prepared}
-use Rattle.symmetrize_wyckoff.specs.Prepared.{found, NotesAll, is_noted, noted_letter, Written, Walkable, Together}
+use Rattle.symmetrize_wyckoff.specs.Prepared.{Assignable}
+use Rattle.symmetrize_wyckoff.specs.Prepared.{found, NotesAll, is_noted, noted_letter, Written, Walkable}
 use Rattle.std.specs.Prelude.{cond, is_ok, is_some, Option as Found, None}
 use Rattle.std.specs.Option.{unwrap_or}
 
@@ -131,36 +128,3 @@ module _ (x : AssignArguments) (ready : Assignable x) where
   -- as places of a table
   pub labels_below : Below most_listed x.labels
   labels_below k h = omega (arith, ready.below k h, ready.listed)
-
-  module _ (spaces : List RealSpace) where
-    abbrev tables : RealCandidates
-    tables = record { multiplicities = x.candidates; letters = x.letters; spaces = spaces }
-
-    pub together : length spaces ≡ most_candidates → Together tables
-    together e = record { a_letter = ready.letters; a_space = omega (arith, ready.few) }
-
-    module _ (put : PutSpaces x.spaces (length x.candidates) spaces) where
-      is_prepared : IsPrepared x tables
-      is_prepared =
-          record {
-            multiplicities = refl;
-            letters = refl;
-            space = λ k h. (put k h).0;
-            counted = λ k h. (put k h).1;
-          }
-
-      -- what the walk notes by the tables is the letters of the orbits
-      pub noted_letters :
-          (table : List (Found ℕ)) →
-          NotesAll
-          (walked
-          (found_by
-          (record {
-            multiplicities = x.multiplicities;
-            positions = x.positions;
-            basis = x.basis;
-            symprec = x.symprec;
-            candidates = tables;
-          })) x.labels (length x.labels)) table →
-          NotesAll (letter_of (sites_in x)) table
-      noted_letters table h l b = h l b ∙ ap found (walked-prepared x tables is_prepared ready.positions l)

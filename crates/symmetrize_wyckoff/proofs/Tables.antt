@@ -1,68 +1,65 @@
 -- The table of letters: after j sites it has what they give each label.
-use Prim.Native.Nat.{ℕ, ◌+◌, ◌≤◌, ◌<◌}
+use Prim.Native.Nat.{ℕ, ◌+◌, ◌<◌}
 use mathlib.Core.Path.{◌≡◌, refl, sym, ap, ◌∙◌, subst}
 use mathlib.Core.Bool.{Bool, true, false}
-use mathlib.Core.List.{List}
+use mathlib.Core.List.{List, [], ◌∷◌}
 use mathlib.Core.Option.{Option, none, some}
 use native.Mathlib.Omega.{arith}
 use native.Mathlib.Numerals.{add-one}
 use borrow.Author.Tests.{eqb-true, eqb-false, eq-eqb, ne_eqb}
 use lib.Dec.{eqb}
-use lib.ListN.{length, get_or, set, drop, replicate, get_or-replicate}
+use lib.ListN.{length, get_or, set, replicate, get_or-replicate}
 use lib.Seq.{get_or-set_same, get_or-set_other}
 use lib.Ieee.{Float}
 use Rattle.definitions.specs.declared.Position.{Position}
-use Rattle.definitions.specs.Lists.{first, up_to}
+use Rattle.definitions.specs.Lists.{first}
 use Rattle.definitions.specs.Real.{RealMatrix}
 use Rattle.definitions.specs.Limits.{most_listed}
-use Rattle.laws.specs.Counting.{length-up_to, get_d_up_to}
-use Rattle.symmetrize_wyckoff.specs.Firsts.{or_else, first_miss, first_hit, first_end}
+use Rattle.symmetrize_wyckoff.specs.Firsts.{or_else, mapped}
 use Rattle.symmetrize_wyckoff.specs.Walk.{walked}
-use Rattle.symmetrize_wyckoff.specs.Prepared.{RealCandidates, space_at, fits_real, found_real}
+use Rattle.symmetrize_wyckoff.specs.declared.find.Candidate.{Candidate}
+use Rattle.symmetrize_wyckoff.specs.Prepared.{fits_real, found_real}
 use Rattle.laws.specs.Tests.{never}
 use Rattle.symmetrize_wyckoff.specs.Prepared.{found, NotesAll, is_noted}
-use Rattle.std.specs.Prelude.{is_some, Option as Found, Some, None, Result}
+use Rattle.std.specs.Prelude.{cond, is_some, option_map, Option as Found, Some, None, Result}
+use Rattle.std.specs.List.{find}
 use Rattle.std.specs.Option.{ok_or}
 use Rattle.std.specs.Result.{result_ok}
 use Rattle.definitions.specs.declared.Refusal.{Refusal}
 use Rattle.symmetrize_match.specs.Match.{match_real}
 
--- ---- the search among n candidates, by places
+-- ---- a candidate
 
-module _ (t : ℕ → Bool) (n k : ℕ) where
-  pub place_miss : k < n → t k ≡ false → first t (drop k (up_to n)) ≡ first t (drop (k + 1) (up_to n))
-  place_miss h e = first_miss t 0 (up_to n) k (omega (arith, length-up_to n)) (ap t (get_d_up_to n k 0 h) ∙ e)
-
-  pub place_hit : k < n → t k ≡ true → first t (drop k (up_to n)) ≡ some k
-  place_hit h e =
-      first_hit t 0 (up_to n) k (omega (arith, length-up_to n)) (ap t (get_d_up_to n k 0 h) ∙ e)
-      ∙ ap some (get_d_up_to n k 0 h)
-
-  pub place_end : n ≤ k → first t (drop k (up_to n)) ≡ none
-  place_end h = first_end t 0 (up_to n) k (omega (arith, length-up_to n))
-
-module _ (basis : RealMatrix) (symprec : Float) (m : ℕ) (p : Position) (cs : RealCandidates) where
-  pub other_count : (k : ℕ) → (get_or cs.multiplicities k 0 ≡ m → ⊥) → false ≡ fits_real basis symprec m p cs k
+module _ (basis : RealMatrix) (symprec : Float) (m : ℕ) (p : Position) (c : Candidate) where
+  pub other_count : (c.multiplicity ≡ m → ⊥) → false ≡ fits_real basis symprec m p c
   unfolding fits_real
-  other_count k ne = rw (ne_eqb (get_or cs.multiplicities k 0) m ne)
+  other_count ne = rw (ne_eqb c.multiplicity m ne)
 
   pub same_count :
-      (k : ℕ) (r : Bool) → get_or cs.multiplicities k 0 ≡ m → r ≡ is_some (match_real basis symprec (space_at cs k) p) →
-      r ≡ fits_real basis symprec m p cs k
+      (r : Bool) → c.multiplicity ≡ m → r ≡ is_some (match_real basis symprec c.space p) → r ≡ fits_real basis symprec m p c
   unfolding fits_real
-  same_count k r e h = rw (eq-eqb (get_or cs.multiplicities k 0) m e) h
+  same_count r e h = rw (eq-eqb c.multiplicity m e) h
 
-  pub found_letter :
-      (k : ℕ) → first (fits_real basis symprec m p cs) (up_to (length cs.multiplicities)) ≡ some k →
-      Some (get_or cs.letters k 0) ≡ found (found_real basis symprec m p cs)
-  unfolding found_real
-  found_letter k e = rw e refl
+-- the first that passes, by the words of a chain of iterators
+find_first :
+    {A : Type 0} (t : A → Bool) (f : A → ℕ) (l : List A) → option_map f (find t l) ≡ found (mapped f (first t l))
+unfolding first
+find_first t f [] = refl
+find_first {A} t f (a ∷ l) = by (t a) (find_first t f l)
+  where
+    by :
+        (b : Bool) → option_map f (find t l) ≡ found (mapped f (first t l)) →
+        option_map f (cond b (Some a) (find t l))
+        ≡ found (mapped f (elim b as (λ (x : Bool). Option A) [ true ↦ some a | false ↦ first t l ]))
+    by true e = refl
+    by false e = e
 
-  pub found_none :
-      first (fits_real basis symprec m p cs) (up_to (length cs.multiplicities)) ≡ none →
-      None ≡ found (found_real basis symprec m p cs)
-  unfolding found_real
-  found_none e = rw e refl
+pub find_found :
+    (basis : RealMatrix) (symprec : Float) (m : ℕ) (p : Position) (cs : List Candidate) →
+    option_map (λ (c : Candidate). c.letter) (find (fits_real basis symprec m p) cs)
+    ≡ found (found_real basis symprec m p cs)
+unfolding found_real
+find_found basis symprec m p cs = find_first (fits_real basis symprec m p) (λ (c : Candidate). c.letter) cs
 
 -- ---- what a cell says
 

@@ -1,7 +1,7 @@
--- Laws of the first that passes: of a list, of what passes another test, of two lists, of the places of a list.
-use Rattle.std.specs.Prelude.{ℕ, zero, suc, ◌+◌, ◌≤◌, ◌<◌, ◌≡◌, Bool, length, get_or, drop}
+-- Laws of the first that passes: of a list, of what passes another test, of two lists.
+use Rattle.std.specs.Prelude.{ℕ, zero, suc, ◌+◌, ◌≡◌, Bool}
 use Rattle.std.proofs.Math.Path.{refl, sym, ap}
-use Rattle.std.proofs.Common.{◌∙◌, arith, add-one, drop_of_length-le, drop-cons}
+use Rattle.std.proofs.Common.{◌∙◌, arith}
 use Rattle.std.proofs.Math.Bool.{true, false, cond}
 use mathlib.Core.List.{List, [], ◌∷◌, ◌++◌, map, Memᴰ}
 use Rattle.std.proofs.Math.Option.{Option, none, some}
@@ -89,18 +89,6 @@ module _ {A : Type 0} (t : A → Bool) where
           ≡ cond b (some a) (first s l)
       by true = refl
       by false = refl
-
-  -- as the code tries: place by place
-  module _ (d : A) (l : List A) (i : ℕ) where
-    pub first_miss : i < length l → t (get_or l i d) ≡ false → first t (drop i l) ≡ first t (drop (i + 1) l)
-    first_miss h e = rw (add-one, drop-cons l i d, first_cons (get_or l i d) (drop (suc i) l), e)
-
-    pub first_hit : i < length l → t (get_or l i d) ≡ true → first t (drop i l) ≡ some (get_or l i d)
-    first_hit h e = rw (drop-cons l i d, first_cons (get_or l i d) (drop (suc i) l), e)
-
-    pub first_end : length l ≤ i → first t (drop i l) ≡ none
-    unfolding first
-    first_end h = rw (drop_of_length-le l h)
 
 -- the elements that pass, of two lists
 pub those-append : {A : Type 0} (q : A → Bool) (l m : List A) → those q (l ++ m) ≡ those q l ++ those q m

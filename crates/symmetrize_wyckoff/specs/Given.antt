@@ -1,16 +1,11 @@
--- What the letter call, its step and its walk are given, as the definitions speak of it.
+-- What the letter call and its step are given, as the definitions speak of it.
 use Rattle.std.specs.Prelude.{ℕ, List}
 use Rattle.definitions.specs.SiteCalls.{LabelCells, LetterArguments, LetterCells}
 use Rattle.base_cell.specs.Given.{arguments_of}
 use Rattle.data_wyckoff.specs.Spaces.{lists}
-use Rattle.symmetrize_wyckoff.specs.declared.find.Candidates.{Candidates}
 use Rattle.symmetrize_wyckoff.specs.declared.arguments.Lettering.{Lettering}
 use Rattle.symmetrize_wyckoff.specs.declared.arguments.Placed.{Placed}
 use Rattle.symmetrize_wyckoff.specs.Lettering.{Placed as PlacedCells}
-use Rattle.symmetrize_wyckoff.specs.Prepared.{RealCandidates}
-
-abbrev pub candidates_of : Candidates → RealCandidates
-candidates_of x = record { multiplicities = x.multiplicities.now; letters = x.letters.now; spaces = x.spaces.now }
 
 abbrev pub placed_of : Placed → PlacedCells
 placed_of x =

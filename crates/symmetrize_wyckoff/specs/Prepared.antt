@@ -1,5 +1,5 @@
--- Candidates prepared for the walk, as the code has them: a multiplicity, a letter and a space as floats each; what is
--- found at a site by them, and a table of the letters by label.
+-- Candidates prepared for the walk, as the code has them, each with its space as floats; what is found at a site by
+-- them, and a table of the letters by label.
 use Prim.Native.Nat.{ℕ, ◌≤◌, ◌<◌}
 use Rattle.std.specs.Prelude.{◌≡◌, refl, true, ◌&&◌, drop, Float, is_some, Option as Found, Some, None}
 use Rattle.std.specs.Option.{unwrap_or}
@@ -8,7 +8,8 @@ use Rattle.std.proofs.Common.{◌∙◌, arith}
 use Rattle.std.proofs.Math.Bool.{Bool}
 use mathlib.Core.List.{List, [], ◌++◌, map}
 use Rattle.std.proofs.Math.Option.{Option, none, some}
-use Rattle.std.proofs.Math.ListN.{length, get_or}
+use lib.ListN.{length, get_or, length-map}
+use lib.Seq.{ext_get_or}
 use Rattle.std.proofs.Math.Dec.{eqb}
 use lib.Ieee.{nan}
 use Rattle.definitions.specs.declared.Position.{Position}
@@ -16,43 +17,32 @@ use Rattle.definitions.specs.Limits.{most_candidates, most_listed}
 use Rattle.definitions.specs.Lists.{all, first, up_to}
 use Rattle.definitions.specs.Real.{RealMatrix, origin}
 use Rattle.definitions.specs.Lent.{position_from}
-use Rattle.definitions.specs.Wyckoff.{Space, Choice, position_fits, candidate_for, letter_of}
-use Rattle.definitions.specs.SiteCalls.{AssignArguments, SpaceCells, space_from, choice_at, sites_in}
+use Rattle.definitions.specs.Wyckoff.{Choice, position_fits, candidate_for, letter_of}
+use Rattle.definitions.specs.SiteCalls.{AssignArguments, choice_at, sites_in}
 use Rattle.base_cell.specs.Grouping.{Below}
-use Rattle.laws.specs.Lists.{map_at, from_up_to}
-use Rattle.symmetrize_match.specs.declared.RealSpace.{RealSpace}
+use Rattle.laws.specs.Lists.{map_at, from_up_to, length-up_from, up_to_at}
 use Rattle.symmetrize_match.specs.Match.{space_of, real_space, CountedDiagonal, match_real}
 use Rattle.symmetrize_match.specs.Match.{match_is}
+use Rattle.symmetrize_wyckoff.specs.declared.find.Candidate.{Candidate}
 use Rattle.symmetrize_wyckoff.specs.Firsts.{mapped, first_map, first_same}
 use Rattle.symmetrize_wyckoff.specs.Walk.{fits_is, walked, walked_same, found_at, letter_walked}
 
 -- ---- what a site finds
 
--- candidates: multiplicities, letters and spaces as floats
-pub record RealCandidates : Type 0 where
-  pub multiplicities : List ℕ
-  pub letters : List ℕ
-  pub spaces : List RealSpace
-
--- what a place behind a list of spaces is read as
+-- what a place behind a list of candidates is read as
 abbrev no_point : Position
 no_point = record { x = nan; y = nan; z = nan }
 
-abbrev pub no_space : RealSpace
-no_space = space_of [] no_point no_point [] []
-
-abbrev pub space_at : RealCandidates → ℕ → RealSpace
-space_at cs k = get_or cs.spaces k no_space
+abbrev pub no_candidate : Candidate
+no_candidate = record { multiplicity = 0; letter = 0; space = space_of [] no_point no_point [] [] }
 
 -- "A candidate is tried only where its multiplicity equals the orbit's"
-unfoldable pub fits_real : RealMatrix → Float → ℕ → Position → RealCandidates → ℕ → Bool
-fits_real basis symprec m p cs k =
-    eqb (get_or cs.multiplicities k 0) m && is_some (match_real basis symprec (space_at cs k) p)
+unfoldable pub fits_real : RealMatrix → Float → ℕ → Position → Candidate → Bool
+fits_real basis symprec m p c = eqb c.multiplicity m && is_some (match_real basis symprec c.space p)
 
 -- the letter of the first candidate, in list order, that a position fits
-unfoldable pub found_real : RealMatrix → Float → ℕ → Position → RealCandidates → Option ℕ
-found_real basis symprec m p cs =
-    mapped (λ k. get_or cs.letters k 0) (first (fits_real basis symprec m p cs) (up_to (length cs.multiplicities)))
+unfoldable pub found_real : RealMatrix → Float → ℕ → Position → List Candidate → Option ℕ
+found_real basis symprec m p cs = mapped (λ (c : Candidate). c.letter) (first (fits_real basis symprec m p) cs)
 
 -- one at each listed site
 pub record RealSites : Type 0 where
@@ -60,16 +50,11 @@ pub record RealSites : Type 0 where
   pub positions : List (List Float)
   pub basis : RealMatrix
   pub symprec : Float
-  pub candidates : RealCandidates
+  pub candidates : List Candidate
 
 abbrev pub found_by : RealSites → ℕ → Option ℕ
 found_by g j =
     found_real g.basis g.symprec (get_or g.multiplicities j 0) (position_from (get_or g.positions j [])) g.candidates
-
--- lists that belong together
-pub record Together (cs : RealCandidates) : Type 0 where
-  pub a_letter : length cs.letters ≡ length cs.multiplicities
-  pub a_space : length cs.multiplicities ≤ length cs.spaces
 
 pub record Walkable (ls ms : List ℕ) (ps : List (List Float)) : Type 0 where
   pub listed : length ls ≤ most_listed
@@ -77,17 +62,15 @@ pub record Walkable (ls ms : List ℕ) (ps : List (List Float)) : Type 0 where
   pub multiplicities : length ms ≡ length ls
   pub positions : length ps ≡ length ls
 
--- the candidate k's space in lent lists
-abbrev pub lent_space : SpaceCells → ℕ → Space
-lent_space e k =
-    space_from (get_or e.matrices k []) (get_or e.shifts k [])
-    (record { d = get_or e.ds k []; l = get_or e.ls k []; r = get_or e.rs k [] })
+-- a candidate as the definition has it, with its space as floats
+abbrev pub real_candidate : Choice → Candidate
+real_candidate w = record { multiplicity = w.multiplicity; letter = w.letter; space = real_space w.space }
 
--- those of the first n, as floats, which count their diagonals
-abbrev pub PutSpaces : SpaceCells → ℕ → List RealSpace → Type 0
-PutSpaces e n out =
+-- the first n candidates of x, which count their diagonals
+abbrev pub PutCandidates : AssignArguments → ℕ → List Candidate → Type 0
+PutCandidates x n out =
     (k : ℕ) → k < n →
-    (get_or out k no_space ≡ real_space (lent_space e k)) × CountedDiagonal (lent_space e k).snf.d
+    (get_or out k no_candidate ≡ real_candidate (choice_at x k)) × CountedDiagonal (choice_at x k).space.snf.d
 
 -- ---- the table
 
@@ -129,30 +112,37 @@ pub record Assignable (x : AssignArguments) : Type 0 where
 
 -- ---- prepared candidates find what the definitions find
 
--- the tables hold the spaces of the first m candidates of x
-pub record IsPrepared (x : AssignArguments) (cs : RealCandidates) : Type 0 where
-  pub multiplicities : cs.multiplicities ≡ x.candidates
-  pub letters : cs.letters ≡ x.letters
-  pub space : (k : ℕ) → k < length x.candidates → space_at cs k ≡ real_space (choice_at x k).space
-  pub counted : (k : ℕ) → k < length x.candidates → CountedDiagonal (choice_at x k).space.snf.d
+module _ (x : AssignArguments) (cs : List Candidate) (long : length cs ≡ length x.candidates)
+    (put : PutCandidates x (length x.candidates) cs) where
+  abbrev n : ℕ
+  n = length x.candidates
 
-module _ (x : AssignArguments) (cs : RealCandidates) (h : IsPrepared x cs) where
+  abbrev real_at : ℕ → Candidate
+  real_at k = real_candidate (choice_at x k)
+
+  candidates_are : cs ≡ map real_at (up_to n)
+  candidates_are =
+      ext_get_or no_candidate cs (map real_at (up_to n))
+      (long ∙ sym (length-map (up_to n) real_at ∙ length-up_from 0 n))
+      (λ k h.
+      let b : k < n = omega (arith, long) in
+      (put k b).0
+      ∙ sym (map_at real_at (up_to n) k 0 no_candidate (omega (arith, length-up_from 0 n)) ∙ ap real_at (up_to_at n k b)))
+
   fits_prepared :
-      (m : ℕ) (p : Position) (k : ℕ) → k < length x.candidates →
-      fits_real x.basis x.symprec m p cs k ≡ position_fits x.basis x.symprec m p (choice_at x k)
+      (m : ℕ) (p : Position) (k : ℕ) → k < n →
+      fits_real x.basis x.symprec m p (real_at k) ≡ position_fits x.basis x.symprec m p (choice_at x k)
   unfolding fits_real position_fits
   fits_prepared m p k b =
-      ap (λ ms. eqb (get_or ms k 0) m && is_some (match_real x.basis x.symprec (space_at cs k) p)) h.multiplicities
-      ∙ ap (λ t. eqb (get_or x.candidates k 0) m && t)
-      (ap (λ s. is_some (match_real x.basis x.symprec s p)) (h.space k b)
-      ∙ ap is_some (match_is (choice_at x k).space (h.counted k b) x.basis x.symprec p)
+      ap (λ t. eqb (get_or x.candidates k 0) m && t)
+      (ap is_some (match_is (choice_at x k).space (put k b).1 x.basis x.symprec p)
       ∙ sym (fits_is x.basis x.symprec (choice_at x k).space p))
 
-  mapped_twice :
-      (o : Option ℕ) → mapped (λ (w : Choice). w.letter) (mapped (choice_at x) o)
-      ≡ mapped (λ k. get_or x.letters k 0) o
-  mapped_twice none = refl
-  mapped_twice (some k) = refl
+  letter_of_both :
+      (o : Option ℕ) → mapped (λ (c : Candidate). c.letter) (mapped real_at o)
+      ≡ mapped (λ (w : Choice). w.letter) (mapped (choice_at x) o)
+  letter_of_both none = refl
+  letter_of_both (some k) = refl
 
   found_prepared :
       (m : ℕ) (p : Position) →
@@ -160,14 +150,15 @@ module _ (x : AssignArguments) (cs : RealCandidates) (h : IsPrepared x cs) where
       ≡ mapped (λ (w : Choice). w.letter) (candidate_for x.basis x.symprec m p (sites_in x).choices)
   unfolding found_real candidate_for
   found_prepared m p =
-      let n = length x.candidates in
-      let t : ℕ → Bool = fits_real x.basis x.symprec m p cs in
+      let t : Candidate → Bool = fits_real x.basis x.symprec m p in
       let s : Choice → Bool = position_fits x.basis x.symprec m p in
-      ap (λ ms. mapped (λ k. get_or cs.letters k 0) (first t (up_to (length ms)))) h.multiplicities
-      ∙ ap (λ ls. mapped (λ k. get_or ls k 0) (first t (up_to n))) h.letters
-      ∙ ap (mapped (λ k. get_or x.letters k 0))
-      (first_same t (λ k. s (choice_at x k)) (up_to n) (λ k b. fits_prepared m p k (from_up_to n k b)))
-      ∙ sym (mapped_twice (first (λ k. s (choice_at x k)) (up_to n)))
+      let first_one : Option ℕ = first (λ k. s (choice_at x k)) (up_to n) in
+      ap (λ l. mapped (λ (c : Candidate). c.letter) (first t l)) candidates_are
+      ∙ ap (mapped (λ (c : Candidate). c.letter)) (first_map t real_at (up_to n))
+      ∙ ap (λ o. mapped (λ (c : Candidate). c.letter) (mapped real_at o))
+      (first_same (λ k. t (real_at k)) (λ k. s (choice_at x k)) (up_to n)
+      (λ k b. fits_prepared m p k (from_up_to n k b)))
+      ∙ letter_of_both first_one
       ∙ ap (mapped (λ (w : Choice). w.letter)) (sym (first_map s (choice_at x) (up_to n)))
 
   abbrev real_sites : RealSites

@@ -22,7 +22,7 @@ ghost use Rattle.symmetrize_wyckoff.specs.Lettering.{LetterJudged, assign_with};
 use crate::arguments::{Lettering, Placed};
 use crate::find::Candidates;
 use crate::guard::assignable;
-use crate::prepare::{NO_SPACE, put_spaces};
+use crate::prepare::{NO_CANDIDATE, put_candidates};
 use crate::walk::{Letters, note_letters};
 use crate::write::put_letters;
 use base_cell::Orbits;
@@ -36,16 +36,14 @@ fn letter_table(labels: &[u16], multiplicities: &[u16], placed: &Placed) -> Lett
     ensures { NotesAll
         (letter_of (sites_in (assign_with (placed_of placed.now) labels.now multiplicities.now))) result }
 {
-    let mut spaces = [NO_SPACE; MOST_CANDIDATES];
-    put_spaces(placed.spaces, &mut spaces);
-    let prepared = Candidates {
+    let mut table = [NO_CANDIDATE; MOST_CANDIDATES];
+    put_candidates(placed, &mut table);
+    let candidates = Candidates {
         basis: placed.basis,
         symprec: placed.symprec,
-        multiplicities: placed.candidates,
-        letters: placed.letters,
-        spaces: &spaces,
+        listed: &table[..placed.spaces.len()],
     };
-    note_letters(labels, multiplicities, placed.positions, &prepared)
+    note_letters(labels, multiplicities, placed.positions, &candidates)
 }
 
 // moyo's `assign_wyckoffs_by_orbit`: every orbit's letter at its sites, or none where an orbit has none.

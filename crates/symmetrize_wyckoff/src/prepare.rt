@@ -1,41 +1,52 @@
-// The candidates' spaces as floats, worked out once a candidate: moyo works them out anew in each match.
-ghost use Rattle.std.specs.Prelude.{◌≤◌, ◌≡◌, length};
+// The candidates with their spaces as floats, worked out once a candidate: moyo works them out anew in each match.
+ghost use Rattle.std.specs.Prelude.{[], ◌≤◌, ◌≡◌, length};
 ghost use Rattle.definitions.specs.Limits.{most_candidates};
-ghost use Rattle.data_wyckoff.specs.Spaces.{lists};
-ghost use Rattle.symmetrize_wyckoff.specs.Prepared.{PutSpaces};
+ghost use Rattle.symmetrize_wyckoff.specs.Given.{placed_of};
+ghost use Rattle.symmetrize_wyckoff.specs.Lettering.{assign_with};
+ghost use Rattle.symmetrize_wyckoff.specs.Prepared.{PutCandidates};
 
-use data_wyckoff::space::Space;
+use crate::arguments::Placed;
+use crate::find::Candidate;
 use definitions::Position;
 use definitions::limits::MOST_CANDIDATES;
 use symmetrize_match::{RealSpace, real_space};
 
 // One a candidate.
-pub(crate) type Prepared = [RealSpace; MOST_CANDIDATES];
+pub(crate) type Prepared = [Candidate; MOST_CANDIDATES];
+
+const ORIGIN: Position = Position {
+    x: 0.0,
+    y: 0.0,
+    z: 0.0,
+};
 
 // What the table holds behind the candidates.
-pub(crate) const NO_SPACE: RealSpace = RealSpace {
-    matrix: [[0.0; 3]; 3],
-    shift: Position {
-        x: 0.0,
-        y: 0.0,
-        z: 0.0,
+pub(crate) const NO_CANDIDATE: Candidate = Candidate {
+    multiplicity: 0,
+    letter: 0,
+    space: RealSpace {
+        matrix: [[0.0; 3]; 3],
+        shift: ORIGIN,
+        diagonal: ORIGIN,
+        left: [[0.0; 3]; 3],
+        right: [[0.0; 3]; 3],
     },
-    diagonal: Position {
-        x: 0.0,
-        y: 0.0,
-        z: 0.0,
-    },
-    left: [[0.0; 3]; 3],
-    right: [[0.0; 3]; 3],
 };
 
 // The table is the caller's: one that is returned is copied twice.
-pub(crate) fn put_spaces(spaces: &[Space], out: &mut Prepared)
-    requires { length spaces.now ≤ most_candidates }
+pub(crate) fn put_candidates(placed: &Placed, out: &mut Prepared)
+    requires { (length placed.now.spaces.now ≤ most_candidates)
+        × (length placed.now.candidates.now ≡ length placed.now.spaces.now)
+        × (length placed.now.letters.now ≡ length placed.now.spaces.now) }
     ensures size { length out.new ≡ most_candidates }
-    ensures spaces { PutSpaces (lists spaces.now) (length spaces.now) out.new }
+    ensures candidates { PutCandidates (assign_with (placed_of placed.now) [] [])
+        (length placed.now.spaces.now) out.new }
 {
-    for (k, space) in spaces.iter().enumerate() {
-        out[k] = real_space(space);
+    for (k, space) in placed.spaces.iter().enumerate() {
+        out[k] = Candidate {
+            multiplicity: placed.candidates[k],
+            letter: placed.letters[k],
+            space: real_space(space),
+        };
     }
 }

@@ -1,8 +1,7 @@
 // The walk of moyo's `assign_wyckoffs_by_orbit`: one pass over the sites, which notes each orbit's letter in a table.
 ghost use Rattle.std.specs.Prelude.{length};
 ghost use Rattle.symmetrize_wyckoff.specs.Walk.{walked};
-ghost use Rattle.symmetrize_wyckoff.specs.Given.{candidates_of};
-ghost use Rattle.symmetrize_wyckoff.specs.Prepared.{found_by, Together, Walkable, NotesAll};
+ghost use Rattle.symmetrize_wyckoff.specs.Prepared.{found_by, Walkable, NotesAll};
 
 use crate::find::Candidates;
 use definitions::limits::MOST_LISTED;
@@ -18,7 +17,7 @@ pub(crate) fn note_letters(
     positions: &[Cells],
     candidates: &Candidates,
 ) -> Letters
-    requires { Walkable labels.now multiplicities.now positions.now × Together (candidates_of candidates.now) }
+    requires { Walkable labels.now multiplicities.now positions.now }
     ensures { NotesAll
         (walked
         (found_by
@@ -27,7 +26,7 @@ pub(crate) fn note_letters(
           positions = positions.now;
           basis = candidates.now.basis;
           symprec = candidates.now.symprec;
-          candidates = candidates_of candidates.now;
+          candidates = candidates.now.listed.now;
         }))
         labels.now (length labels.now))
         result }

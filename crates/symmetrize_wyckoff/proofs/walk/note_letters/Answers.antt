@@ -6,9 +6,8 @@ use native.Mathlib.Omega.{arith}
 use lib.ListN.{length, get_or, set, length-set}
 use Rattle.std.proofs.Common.{is_some, None}
 use Rattle.symmetrize_wyckoff.specs.Walk.{walked}
-use Rattle.symmetrize_wyckoff.specs.Given.{candidates_of}
 use Rattle.symmetrize_wyckoff.specs.Prepared.{RealSites, found, found_real, found_by, NotesAll}
-use Rattle.symmetrize_wyckoff.proofs.Tables.{nothing_noted, skipped, noted_more}
+use Rattle.symmetrize_wyckoff.proofs.Tables.{find_found, nothing_noted, skipped, noted_more}
 use Rattle.symmetrize_wyckoff.proofs.walk.note_letters.Goals as goal
 use Rattle.symmetrize_wyckoff.proofs.walk.note_letters.Goals.{then-is_none, else-is_none}
 use Rattle.symmetrize_wyckoff.proofs.walk.note_letters.Goals.{After-from-label, Joined-is_none, Start}
@@ -20,7 +19,7 @@ sites s =
       positions = s.args.positions.now;
       basis = s.args.candidates.now.basis;
       symprec = s.args.candidates.now.symprec;
-      candidates = candidates_of s.args.candidates.now;
+      candidates = s.args.candidates.now.listed.now;
     }
 
 pub loop-j-init : goal.loop-j-init
@@ -31,7 +30,7 @@ below : (c : After-from-label) → c.from-label.result < 1024
 below c =
     let l = c.loop-j in
     let h : l.j < length c.args.labels.now = omega arith in
-    omega (arith, c.from-label.ensures, c.requires.0.labels l.j h, c.requires.0.listed)
+    omega (arith, c.from-label.ensures, c.requires.labels l.j h, c.requires.listed)
 
 pub offset_bounds-table-label : goal.offset_bounds-table-label
 offset_bounds-table-label c = record { fits = omega (arith, below c) }
@@ -40,10 +39,10 @@ pub bounds-table-label : goal.bounds-table-label
 bounds-table-label c = omega (arith, below c)
 
 pub bounds-multiplicities-j : goal.bounds-multiplicities-j
-bounds-multiplicities-j c = omega (arith, c.requires.0.multiplicities)
+bounds-multiplicities-j c = omega (arith, c.requires.multiplicities)
 
 pub bounds-positions-j : goal.bounds-positions-j
-bounds-positions-j c = omega (arith, c.requires.0.positions)
+bounds-positions-j c = omega (arith, c.requires.positions)
 
 pub offset_bounds-table-label-then-is_none : goal.offset_bounds-table-label-then-is_none
 offset_bounds-table-label-then-is_none c =
@@ -51,9 +50,6 @@ offset_bounds-table-label-then-is_none c =
 
 pub bounds-table-label-then-is_none : goal.bounds-table-label-then-is_none
 bounds-table-label-then-is_none c = omega (arith, below (goal.at.bounds-table-label-then-is_none c).After-from-label)
-
-pub find_letter-requires : goal.find_letter-requires
-find_letter-requires c = c.requires.1
 
 -- the table where the arms meet: the label had no letter and has what was found, or it had one
 next :
@@ -69,7 +65,7 @@ next c =
     let label = get_or ls l.j 0 in
     let q = c.from-label.ensures in
     let h : l.j < length ls = omega arith in
-    let b : label < 1024 = omega (arith, c.requires.0.labels l.j h, c.requires.0.listed) in
+    let b : label < 1024 = omega (arith, c.requires.labels l.j h, c.requires.listed) in
     let cell = ap (λ k. is_some (get_or l.table k None)) (sym q) ∙ c.is_none.ensures in
     elim c.if-is_none.branch [
       | then-is_none w ↦
@@ -79,6 +75,7 @@ next c =
             noted_more f ls l.j l.table l.invariant.1 b l.invariant.0 (cell ∙ ap not w.if-is_none.true)
                 w.find_letter.result
                 (w.find_letter.ensures
+                ∙ find_found g.basis g.symprec (get_or g.multiplicities l.j 0) w.from-at.result g.candidates
                 ∙ ap (λ p. found (found_real g.basis g.symprec (get_or g.multiplicities l.j 0) p g.candidates))
                 w.from-at.ensures),
           )

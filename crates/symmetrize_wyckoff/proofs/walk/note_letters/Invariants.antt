@@ -1,6 +1,5 @@
 use mathlib.Core.Path.{◌≡◌}
 use lib.ListN.{length}
-use Rattle.symmetrize_wyckoff.specs.Given.{candidates_of}
 use Rattle.symmetrize_wyckoff.specs.Walk.{walked}
 use Rattle.symmetrize_wyckoff.specs.Prepared.{found_by, NotesAll}
 use Rattle.symmetrize_wyckoff.proofs.walk.note_letters.Given as goal
@@ -16,7 +15,7 @@ invariant-loop-j l =
       positions = l.positions;
       basis = l.candidates.basis;
       symprec = l.candidates.symprec;
-      candidates = candidates_of l.candidates;
+      candidates = l.candidates.listed.now;
     }))
     l.labels l.j)
     l.table
