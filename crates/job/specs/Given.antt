@@ -17,14 +17,14 @@ use Rattle.job.specs.Counted.{JobOf}
 use Rattle.job.specs.declared.JobLists.{JobLists}
 use Rattle.job.specs.declared.room.Rooms.{Rooms}
 
--- the lent values
+-- the parts of a job, and the lent values
 abbrev pub given_in : JobLists → Given
 given_in l =
     record {
-      lattice = l.lattice.now;
-      t = l.t.now;
-      shift = position_from l.shift.now;
-      c = l.c.now;
+      lattice = l.lattice;
+      t = l.t;
+      shift = position_from l.shift;
+      c = l.c;
       elements = l.elements.now;
       positions = l.positions.now;
       rotations = l.rotations.now;
@@ -36,15 +36,11 @@ given_in l =
       multiplicities = l.multiplicities.now;
       letters = l.letters.now;
       texts = l.texts.now;
-      symprec = l.symprec.now;
+      symprec = l.symprec;
     }
 
--- .. and they are the same ones, whatever they hold
+-- .. and the lent ones are the same ones, whatever they hold
 pub record SameJob (before after : JobLists) : Type 0 where
-  pub lattice : after.lattice.ghost_name ≡ before.lattice.ghost_name
-  pub t : after.t.ghost_name ≡ before.t.ghost_name
-  pub shift : after.shift.ghost_name ≡ before.shift.ghost_name
-  pub c : after.c.ghost_name ≡ before.c.ghost_name
   pub elements : after.elements.ghost_name ≡ before.elements.ghost_name
   pub positions : after.positions.ghost_name ≡ before.positions.ghost_name
   pub rotations : after.rotations.ghost_name ≡ before.rotations.ghost_name
@@ -56,7 +52,6 @@ pub record SameJob (before after : JobLists) : Type 0 where
   pub multiplicities : after.multiplicities.ghost_name ≡ before.multiplicities.ghost_name
   pub letters : after.letters.ghost_name ≡ before.letters.ghost_name
   pub texts : after.texts.ghost_name ≡ before.texts.ghost_name
-  pub symprec : after.symprec.ghost_name ≡ before.symprec.ghost_name
 
 -- what the values are after a job of so many of each command was read
 abbrev pub given_at : List ℕ → JobCounts → Given

@@ -13,26 +13,6 @@ use crate::lists::put_items;
 use crate::operands::Operand;
 use definitions::{Basis, Cells, JobCounts, Linear, Rotation, Text};
 
-// L, T and C
-fn fill_opening(
-    bytes: &[u8],
-    lattice: &mut Basis,
-    t: &mut Linear,
-    shift: &mut Cells,
-    c: &mut Linear,
-)
-    requires { 117 ≤ length bytes.now }
-    ensures { (lattice.new ≡ lattice_at bytes.now)
-        × (t.new ≡ matrix_from bytes.now 74)
-        × (shift.new ≡ cells_from bytes.now 83)
-        × (c.new ≡ matrix_from bytes.now 108) }
-{
-    *lattice = Basis::read(bytes, 1);
-    *t = Linear::read(bytes, 74);
-    *shift = Cells::read(bytes, 83);
-    *c = Linear::read(bytes, 108);
-}
-
 // S
 fn fill_sites(bytes: &[u8], n: usize, elements: &mut [i32], positions: &mut [Cells])
     requires { (127 + n * 29 ≤ length bytes.now) × (n ≤ length elements.old) × (n ≤ length positions.old) }
@@ -106,14 +86,6 @@ fn fill_texts(bytes: &[u8], at: usize, n: usize, texts: &mut [Text])
     put_items(bytes, at + 4, 68, n, texts);
 }
 
-// N
-fn fill_symprec(bytes: &[u8], at: usize, symprec: &mut f64)
-    requires { at + 10 ≤ length bytes.now }
-    ensures { symprec.new ≡ float_at bytes.now (at + 1) }
-{
-    *symprec = f64::read(bytes, at + 1);
-}
-
 impl JobLists<'_> {
     // All parts of a job with room for each.
     pub(crate) fn fill(&mut self, bytes: &[u8], k: JobCounts)
@@ -127,7 +99,10 @@ impl JobLists<'_> {
         let rotations_from = targets_from + k.targets * 34;
         let candidates_from = rotations_from + k.rotations * 10;
         let symprec_from = candidates_from + k.candidates * 68;
-        fill_opening(bytes, self.lattice, self.t, self.shift, self.c);
+        self.lattice = Basis::read(bytes, 1);
+        self.t = Linear::read(bytes, 74);
+        self.shift = Cells::read(bytes, 83);
+        self.c = Linear::read(bytes, 108);
         fill_sites(bytes, k.sites, self.elements, self.positions);
         fill_operations(
             bytes,
@@ -153,6 +128,6 @@ impl JobLists<'_> {
             self.letters,
         );
         fill_texts(bytes, candidates_from, k.candidates, self.texts);
-        fill_symprec(bytes, symprec_from, self.symprec);
+        self.symprec = f64::read(bytes, symprec_from + 1);
     }
 }

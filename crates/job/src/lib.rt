@@ -13,15 +13,15 @@ ghost use Rattle.job.specs.Given.{given_in, SameJob, rooms_of, Settled, ReadCoun
 
 use crate::room::Rooms;
 use definitions::{Basis, Cells, JobCounts, Linear, Refusal, Rotation, Text};
-use lent::clear;
+use lent::{Zero, clear};
 
-// What is lent for the parts of a job.
+// The parts of a job: those of fixed size, and what is lent for its lists.
 #[derive(Drop)]
 pub struct JobLists<'a> {
-    pub lattice: &'a mut Basis,
-    pub t: &'a mut Linear,
-    pub shift: &'a mut Cells,
-    pub c: &'a mut Linear,
+    pub lattice: Basis,
+    pub t: Linear,
+    pub shift: Cells,
+    pub c: Linear,
     pub elements: &'a mut [i32],
     pub positions: &'a mut [Cells],
     pub rotations: &'a mut [Rotation],
@@ -33,7 +33,7 @@ pub struct JobLists<'a> {
     pub multiplicities: &'a mut [u16],
     pub letters: &'a mut [u8],
     pub texts: &'a mut [Text],
-    pub symprec: &'a mut f64,
+    pub symprec: f64,
 }
 
 impl JobLists<'_> {
@@ -55,16 +55,16 @@ impl JobLists<'_> {
         }
     }
 
-    // All lent values zero.
+    // All values zero.
     fn clear(&mut self)
         ensures zero { HoldsGiven (given_in self.old) (given_in self.new) nothing_given }
         ensures same_lists { SameJob self.old self.new }
     {
-        *self.lattice = [[0.0; 3]; 3];
-        *self.t = [[0; 3]; 3];
-        *self.shift = [0.0; 3];
-        *self.c = [[0; 3]; 3];
-        *self.symprec = 0.0;
+        self.lattice = Basis::ZERO;
+        self.t = Linear::ZERO;
+        self.shift = Cells::ZERO;
+        self.c = Linear::ZERO;
+        self.symprec = 0.0;
         clear(self.elements, 0);
         clear(self.positions, 0);
         clear(self.rotations, 0);

@@ -11,9 +11,10 @@ ghost use Rattle.job_standardize.specs.Counted.{Legal};
 ghost use Rattle.job_standardize.specs.Rooms.{JustRoom};
 
 use definitions::limits::{MOST_CANDIDATES, MOST_IMAGES, MOST_OPERATIONS, MOST_SITES};
-use definitions::{AnswerCounts, JobCounts, Position, Refusal};
+use definitions::{AnswerCounts, Basis, Cells, JobCounts, Linear, Position, Refusal, Rotation, Text};
 use job::layout::{counted, more_than};
 use job::{JobLists, read_counted};
+use lent::Zero;
 use symmetrize_standardize::{Answer, Job, USUAL_IMAGES, standardize};
 
 // ---- counts
@@ -48,10 +49,10 @@ fn standardize_lists(lists: &JobLists, answer: &mut Answer) -> Result<AnswerCoun
     ensures same_answer { SameAnswer answer.old answer.new }
 {
     let job = Job {
-        lattice: *lists.lattice,
-        t: *lists.t,
-        shift: Position::from(*lists.shift),
-        c: *lists.c,
+        lattice: lists.lattice,
+        t: lists.t,
+        shift: Position::from(lists.shift),
+        c: lists.c,
         elements: lists.elements,
         positions: lists.positions,
         rotations: lists.rotations,
@@ -63,7 +64,7 @@ fn standardize_lists(lists: &JobLists, answer: &mut Answer) -> Result<AnswerCoun
         multiplicities: lists.multiplicities,
         letters: lists.letters,
         texts: lists.texts,
-        symprec: *lists.symprec,
+        symprec: lists.symprec,
     };
     standardize(&job, answer)
 }
@@ -96,20 +97,20 @@ fn standardize_counted(
     ensures same_answer { SameAnswer answer.old answer.new }
 {
     let mut elements = [0i32; MOST_SITES];
-    let mut positions = [[0.0; 3]; MOST_SITES];
-    let mut rotations = [[[0i8; 3]; 3]; MOST_OPERATIONS];
-    let mut translations = [[0.0; 3]; MOST_OPERATIONS];
-    let mut rotations_of_targets = [[[0i8; 3]; 3]; MOST_OPERATIONS];
-    let mut translations_of_targets = [[0.0; 3]; MOST_OPERATIONS];
-    let mut conventional = [[[0i8; 3]; 3]; MOST_OPERATIONS];
+    let mut positions = [Cells::ZERO; MOST_SITES];
+    let mut rotations = [Rotation::ZERO; MOST_OPERATIONS];
+    let mut translations = [Cells::ZERO; MOST_OPERATIONS];
+    let mut rotations_of_targets = [Rotation::ZERO; MOST_OPERATIONS];
+    let mut translations_of_targets = [Cells::ZERO; MOST_OPERATIONS];
+    let mut conventional = [Rotation::ZERO; MOST_OPERATIONS];
     let mut multiplicities = [0u16; MOST_CANDIDATES];
     let mut letters = [0u8; MOST_CANDIDATES];
-    let mut texts = [[0u8; 64]; MOST_CANDIDATES];
+    let mut texts = [Text::ZERO; MOST_CANDIDATES];
     let mut lists = JobLists {
-        lattice: &mut [[0.0; 3]; 3],
-        t: &mut [[0; 3]; 3],
-        shift: &mut [0.0; 3],
-        c: &mut [[0; 3]; 3],
+        lattice: Basis::ZERO,
+        t: Linear::ZERO,
+        shift: Cells::ZERO,
+        c: Linear::ZERO,
         elements: &mut elements[..k.sites],
         positions: &mut positions[..k.sites],
         rotations: &mut rotations[..k.operations],
@@ -121,7 +122,7 @@ fn standardize_counted(
         multiplicities: &mut multiplicities[..k.candidates],
         letters: &mut letters[..k.candidates],
         texts: &mut texts[..k.candidates],
-        symprec: &mut 0.0,
+        symprec: 0.0,
     };
     standardize_read(bytes, k, &mut lists, answer)
 }

@@ -1,14 +1,15 @@
 -- Each lent value is zero.
-use mathlib.Core.Path.{refl}
+use mathlib.Core.Path.{refl, ap}
+use Rattle.definitions.specs.Lent.{position_from}
 use Rattle.job.proofs.JobLists.clear.Goals as goal
 
 pub returns-clause-zero : goal.returns-clause-zero
 returns-clause-zero c =
     record {
-      lattice = refl;
-      t = refl;
-      shift = refl;
-      c = refl;
+      lattice = c.ZERO-self.ensures;
+      t = c.ZERO-self-2.ensures;
+      shift = ap position_from c.ZERO-self-3.ensures;
+      c = c.ZERO-self-4.ensures;
       elements = c.clear.ensures;
       positions = c.clear-2.ensures;
       rotations = c.clear-3.ensures;

@@ -1,10 +1,12 @@
 -- Each run begins where the one before it ends.
 use Prim.Native.Nat.{◌+◌, ◌*◌, ◌≤◌}
-use mathlib.Core.Path.{ap}
+use mathlib.Core.Path.{sym, ap, ◌∙◌}
 use native.Mathlib.Omega.{arith}
 use lib.ListN.{length}
+use Rattle.definitions.specs.Job.{float}
 use Rattle.definitions.specs.Lent.{position_from}
 use Rattle.job.specs.Places.{operations_from, images_from, targets_from, rotations_from, candidates_from, symprec_from}
+use Rattle.job.proofs.Words.{word8_is}
 use Rattle.job.proofs.JobLists.fill.Goals as goal
 use Rattle.job.proofs.JobLists.fill.Goals.{Start}
 
@@ -58,16 +60,13 @@ fill_candidates-requires c =
 pub fill_texts-requires : goal.fill_texts-requires
 fill_texts-requires c = (candidates_room_lem (goal.at.fill_texts-requires c).Start, c.requires.1.texts)
 
-pub fill_symprec-requires : goal.fill_symprec-requires
-fill_symprec-requires c = symprec_room (goal.at.fill_symprec-requires c).Start
-
 pub returns-clause-filled : goal.returns-clause-filled
 returns-clause-filled c =
     record {
-      lattice = c.fill_opening.ensures.0;
-      t = c.fill_opening.ensures.1;
-      shift = ap position_from c.fill_opening.ensures.2;
-      c = c.fill_opening.ensures.3;
+      lattice = c.read-self.ensures;
+      t = c.read-self-2.ensures;
+      shift = ap position_from c.read-self-3.ensures;
+      c = c.read-self-4.ensures;
       elements = c.fill_sites.ensures.0;
       positions = c.fill_sites.ensures.1;
       rotations = c.fill_operations.ensures.0;
@@ -79,5 +78,5 @@ returns-clause-filled c =
       multiplicities = c.fill_candidates.ensures.0;
       letters = c.fill_candidates.ensures.1;
       texts = c.fill_texts.ensures;
-      symprec = c.fill_symprec.ensures;
+      symprec = c.read-self-5.ensures ∙ ap float (sym (word8_is c.args.bytes.now (symprec_from c.args.k + 1)));
     }
