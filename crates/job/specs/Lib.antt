@@ -3,4 +3,5 @@ pub mod Places
 pub mod Words
 pub mod Counted
 pub mod Given
+pub mod CountedJobs
 pub mod Alone
