@@ -8,7 +8,9 @@ ghost use Rattle.definitions.specs.Refusal.{Checked};
 ghost use Rattle.definitions.specs.Calls.{identity_conditions, inverse_conditions, product_conditions};
 ghost use Rattle.definitions.specs.Calls.{IdentityPromise, ImagePromise, InversePromise, ProductPromise};
 ghost use Rattle.definitions.specs.Permutation.{is_permutation, permutation_at, inverse_image, after};
+ghost use Rattle.definitions.specs.Lent.{bad_permutation_counts};
 
+use checks::is_some_count;
 use definitions::limits::MOST_SITES;
 use definitions::{PrimSite, Refusal, Verdict};
 use lent::clear;
@@ -86,6 +88,20 @@ pub fn all_permutations(images: &[u8], n: usize, k: usize) -> bool
         }
     }
     true
+}
+
+// Refusal 2 of the calls that are given so many permutations of so many sites in one list: the product is small by the
+// time that it is made.
+pub fn bad_permutation_counts(sites: usize, count: usize, images: &[u8]) -> bool
+    ensures { result ≡ bad_permutation_counts sites count images.now }
+{
+    if MOST_SITES < sites {
+        return true;
+    }
+    if !is_some_count(count) {
+        return true;
+    }
+    images.len() != count * sites
 }
 
 // ---- the verdict of each call
