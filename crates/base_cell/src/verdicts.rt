@@ -12,8 +12,8 @@ ghost use Rattle.base_cell.specs.Grouping.{groupable};
 ghost use Rattle.base_cell.specs.Tested.{Accepted, Tested};
 
 use crate::labels::Grouping;
-use base_permutation::all_permutations;
-use definitions::limits::{MOST_LISTED, MOST_OPERATIONS, MOST_SITES};
+use base_permutation::{all_permutations, bad_permutation_counts};
+use definitions::limits::MOST_LISTED;
 use definitions::{Refusal, Verdict};
 use lent::lacks_room;
 
@@ -34,20 +34,11 @@ fn each_below(n: usize, mapping: &[u16]) -> bool
 }
 
 impl<'i, 'm> Labelling<'i, 'm> {
-    // 2: the product is small by the time that it is made.
+    // 2
     pub fn bad_counts(&self) -> bool
         ensures { result ≡ bad_permutation_counts self.now.sites self.now.count self.now.images.now }
     {
-        if MOST_SITES < self.sites {
-            return true;
-        }
-        if self.count == 0 {
-            return true;
-        }
-        if MOST_OPERATIONS < self.count {
-            return true;
-        }
-        self.images.len() != self.count * self.sites
+        bad_permutation_counts(self.sites, self.count, self.images)
     }
 
     // A mapping entry that is no primitive site: every entry is looked at, however many there are.

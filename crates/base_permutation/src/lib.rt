@@ -95,13 +95,7 @@ pub fn all_permutations(images: &[u8], n: usize, k: usize) -> bool
 pub fn bad_permutation_counts(sites: usize, count: usize, images: &[u8]) -> bool
     ensures { result ≡ bad_permutation_counts sites count images.now }
 {
-    if MOST_SITES < sites {
-        return true;
-    }
-    if !is_some_count(count) {
-        return true;
-    }
-    images.len() != count * sites
+    MOST_SITES < sites || !is_some_count(count) || images.len() != count * sites
 }
 
 // ---- the verdict of each call

@@ -7,26 +7,17 @@ ghost use Rattle.definitions.specs.Limits.{in_range, not_some};
 ghost use Rattle.symmetrize_align.specs.Aligning.{Given};
 
 use crate::Operations;
-use base_permutation::all_permutations;
+use base_permutation::{all_permutations, bad_permutation_counts};
 use checks::{all_in_range, in_range, is_some_count, unimodular};
-use definitions::limits::MOST_SITES;
 use definitions::{Linear, Refusal, Rotation, Verdict};
 
-// 2: the product is small by the time that it is made.
+// 2
 fn bad_counts(operations: &Operations, targets: &[Rotation]) -> bool
     ensures { result ≡ (bad_permutation_counts operations.now.sites (length operations.now.rotations.now)
         operations.now.images.now || not_some (length targets.now)) }
 {
-    if MOST_SITES < operations.sites {
-        return true;
-    }
-    if !is_some_count(operations.rotations.len()) {
-        return true;
-    }
-    if operations.images.len() != operations.rotations.len() * operations.sites {
-        return true;
-    }
-    !is_some_count(targets.len())
+    bad_permutation_counts(operations.sites, operations.rotations.len(), operations.images)
+        || !is_some_count(targets.len())
 }
 
 // 3
@@ -34,13 +25,7 @@ fn bad_entries(t: Linear, rotations: &[Rotation], targets: &[Rotation]) -> bool
     ensures { result ≡ (not (in_range t) || not (all in_range rotations.now)
         || not (all in_range targets.now)) }
 {
-    if !in_range(t) {
-        return true;
-    }
-    if !all_in_range(rotations) {
-        return true;
-    }
-    !all_in_range(targets)
+    !in_range(t) || !all_in_range(rotations) || !all_in_range(targets)
 }
 
 // 2, 3, 5, 7, 10
