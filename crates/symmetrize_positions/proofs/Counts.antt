@@ -1,7 +1,7 @@
 -- What the tests of the counts say.
 use Prim.Native.Nat.{ℕ, ◌*◌}
-use mathlib.Core.Path.{◌≡◌}
-use mathlib.Core.Bool.{Bool, false, not, ◌||◌}
+use mathlib.Core.Path.{◌≡◌, refl}
+use mathlib.Core.Bool.{Bool, true, false, not, ◌||◌}
 use lib.Dec.{eqb}
 use borrow.Author.Tests.{ltb-false, eqb-true, not-false}
 use Rattle.definitions.specs.Limits.{not_some, too_many_sites}
@@ -26,3 +26,11 @@ module _ (n k v m : ℕ) where
         translations = eqb-true v k (not-false _ (neither_right (large || some) unlike three));
         images = eqb-true m (k * n) (not-false _ (neither_right (large || some || unlike) (not (eqb m (k * n))) e));
       }
+
+-- the code tests the images before the translations
+pub last_two : (a b c : Bool) → (a || c || b) ≡ (a || b || c)
+last_two true b c = refl
+last_two false true true = refl
+last_two false true false = refl
+last_two false false true = refl
+last_two false false false = refl

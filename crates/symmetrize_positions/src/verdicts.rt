@@ -1,4 +1,4 @@
-// The verdicts: each call's refusals in their order, decided before anything is written.
+// The verdict: the call's refusals in their order, decided before anything is written.
 ghost use Rattle.std.specs.Prelude.{◌≡◌, ◌*◌, length, not, ◌||◌};
 ghost use Rattle.definitions.specs.Lists.{all};
 ghost use Rattle.definitions.specs.Refusal.{Checked};
@@ -8,37 +8,25 @@ ghost use Rattle.definitions.specs.Lent.{cells_within};
 ghost use Rattle.definitions.specs.Limits.{in_range, position_within};
 
 use crate::GivenTargets;
-use base_permutation::all_permutations;
+use base_permutation::{all_permutations, bad_permutation_counts};
 use checks::{
-    all_cells_within, all_in_range, in_range, is_some_count, position_within, unimodular,
+    all_cells_within, all_in_range, in_range, position_within, unimodular,
 };
-use definitions::limits::MOST_SITES;
 use definitions::{Cells, Linear, Position, Refusal, Rotation, Verdict};
 
 fn bad_counts(n: usize, targets: &GivenTargets) -> bool
     ensures { result
         ≡ bad_target_counts n targets.now.rotations.now targets.now.translations.now targets.now.images.now }
 {
-    if MOST_SITES < n {
-        return true;
-    }
-    if !is_some_count(targets.rotations.len()) {
-        return true;
-    }
-    if targets.translations.len() != targets.rotations.len() {
-        return true;
-    }
-    targets.images.len() != targets.rotations.len() * n
+    bad_permutation_counts(n, targets.rotations.len(), targets.images)
+        || targets.translations.len() != targets.rotations.len()
 }
 
 // all of T's and the rotations' entries
 fn bad_entries(t: Linear, rotations: &[Rotation]) -> bool
     ensures { result ≡ (not (in_range t) || not (all in_range rotations.now)) }
 {
-    if !in_range(t) {
-        return true;
-    }
-    !all_in_range(rotations)
+    !in_range(t) || !all_in_range(rotations)
 }
 
 fn bad_floats(shift: Position, positions: &[Cells], translations: &[Cells]) -> bool
@@ -46,13 +34,7 @@ fn bad_floats(shift: Position, positions: &[Cells], translations: &[Cells]) -> b
         || not (all cells_within positions.now)
         || not (all cells_within translations.now)) }
 {
-    if !position_within(shift) {
-        return true;
-    }
-    if !all_cells_within(positions) {
-        return true;
-    }
-    !all_cells_within(translations)
+    !position_within(shift) || !all_cells_within(positions) || !all_cells_within(translations)
 }
 
 // 2, 3, 4, 5, 7, 10
