@@ -15,6 +15,7 @@ use Rattle.definitions.specs.Refusal.{Verdict}
 use Rattle.definitions.specs.Transformation.{transform_rotation, is_none, operation_for, permutation_or}
 use Rattle.definitions.specs.Transformation.{rotation_absent, aligned_to}
 use Rattle.laws.specs.Lists.{any_head, part_of, next_part}
+use Rattle.symmetrize_align.specs.declared.GivenAlignment.{GivenAlignment}
 use Rattle.symmetrize_align.specs.Aligning.{last_of, aligned_by, Put, Aligned}
 use Rattle.symmetrize_align.proofs.Search.{transformed_last}
 
@@ -113,10 +114,25 @@ module _ (t : Matrix) (rs held d : List Matrix) (e : held ≡ map (transform_rot
   pub lent_is : take (length rs) held ≡ map (transform_rotation t) rs
   lent_is = rw e (take_at (map (transform_rotation t) rs) d (length rs) (length-map rs (transform_rotation t)))
 
-module _ (t : Matrix) (rs ms : List Matrix) (images : List ℕ) (n : ℕ) (gs : List Matrix) where
+module _ (given : GivenAlignment) (ms : List Matrix) where
+  abbrev t : Matrix
+  t = given.t
+
+  abbrev rs : List Matrix
+  rs = given.operations.rotations.now
+
+  abbrev images : List ℕ
+  images = given.operations.images.now
+
+  abbrev n : ℕ
+  n = given.operations.sites
+
+  abbrev gs : List Matrix
+  gs = given.targets.now
+
   pub aligned_by_lem :
       ms ≡ map (transform_rotation t) rs → (old new : List ℕ) (v : Verdict) → Put ms images n gs old new v →
-      Aligned t rs images n gs old new v
+      Aligned given old new v
   unfolding rotation_absent aligned_to
   aligned_by_lem e old new = by
     where
@@ -131,7 +147,7 @@ module _ (t : Matrix) (rs ms : List Matrix) (images : List ℕ) (n : ℕ) (gs : 
           (λ i. each (λ g. permutation_or n images (same g i)) gs)
           ∙ sym (each-mapped (λ g. permutation_or n images (operation_for t rs g)) gs)
 
-      by : (v : Verdict) → Put ms images n gs old new v → Aligned t rs images n gs old new v
+      by : (v : Verdict) → Put ms images n gs old new v → Aligned given old new v
       by (Ok u) p =
           (sym absent ∙ p.0, sym (ap length answer) ∙ p.1, p.2 ∙ ap (λ (l : List ℕ). l ++ drop (length gs * n) old) answer)
       by (Err r) p = (p.0, sym absent ∙ p.1)

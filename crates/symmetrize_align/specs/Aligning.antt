@@ -1,6 +1,6 @@
 -- The last of the transformed rotations that is a target's, and the permutations by it: what the functions here say of
 -- each other.
-use Rattle.std.specs.Prelude.{ℕ, ◌*◌, ◌≤◌, ◌≡◌, true, false, List, [], ◌++◌, reverse, get_or, length, drop}
+use Rattle.std.specs.Prelude.{ℕ, ◌*◌, ◌≤◌, ◌≡◌, Bool, true, false, List, [], ◌++◌, reverse, get_or, length, drop}
 use Rattle.std.specs.Prelude.{Option as Found, Some, None}
 use Rattle.std.proofs.Math.Option.{Option, none, some}
 use Rattle.std.specs.Prelude.{Err, Ok}
@@ -12,6 +12,7 @@ use Rattle.definitions.specs.Calls.{align_conditions}
 use Rattle.definitions.specs.Refusal.{Condition, Verdict, Checked}
 use Rattle.definitions.specs.Transformation.{same_matrix, is_none, permutation_or, rotation_absent, aligned_to}
 use Rattle.laws.specs.Verdicts.{Passed}
+use Rattle.symmetrize_align.specs.declared.GivenAlignment.{GivenAlignment}
 
 -- ---- the search
 
@@ -43,30 +44,46 @@ Put ms images n gs old new (Err r) = (r ≡ TargetRotation) × (any (λ g. is_no
 
 -- ---- the call
 
+-- its conditions and its answer, as the definitions take what it is given
+abbrev pub conditions : GivenAlignment → ℕ → List Condition
+conditions g room =
+    let o = g.operations in
+    align_conditions g.t o.rotations.now o.images.now o.sites g.targets.now room
+
+abbrev pub answer : GivenAlignment → List ℕ
+answer g =
+    let o = g.operations in
+    each (λ p. p) (aligned_to o.sites g.t o.rotations.now o.images.now g.targets.now)
+
+abbrev pub one_absent : GivenAlignment → Bool
+one_absent g = rotation_absent g.t g.operations.rotations.now g.targets.now
+
+-- how long the answer is
+abbrev pub size : GivenAlignment → ℕ
+size g = length g.targets.now * g.operations.sites
+
 -- what is known past 2 and 10
-pub record Known (k : ℕ) (images : List ℕ) (n targets room : ℕ) : Type 0 where
-  pub sites : n ≤ most_sites
-  pub operations : k ≤ most_operations
-  pub of_images : length images ≡ k * n
-  pub of_targets : targets ≤ most_operations
-  pub of_room : targets * n ≤ room
+pub record Known (g : GivenAlignment) (room : ℕ) : Type 0 where
+  pub sites : g.operations.sites ≤ most_sites
+  pub operations : length g.operations.rotations.now ≤ most_operations
+  pub of_images : length g.operations.images.now ≡ length g.operations.rotations.now * g.operations.sites
+  pub of_targets : length g.targets.now ≤ most_operations
+  pub of_room : size g ≤ room
 
 -- past the refusals before 11
-abbrev pub Aligned : Matrix → List Matrix → List ℕ → ℕ → List Matrix → List ℕ → List ℕ → Verdict → Type 0
-Aligned t rs images n gs old new (Ok u) =
-    (rotation_absent t rs gs ≡ false)
-    × (length (each (λ p. p) (aligned_to n t rs images gs)) ≡ length gs * n)
-    × (new ≡ each (λ p. p) (aligned_to n t rs images gs) ++ drop (length gs * n) old)
-Aligned t rs images n gs old new (Err r) = (r ≡ TargetRotation) × (rotation_absent t rs gs ≡ true)
+abbrev pub Aligned : GivenAlignment → List ℕ → List ℕ → Verdict → Type 0
+Aligned g old new (Ok u) =
+    (one_absent g ≡ false) × (length (answer g) ≡ size g) × (new ≡ answer g ++ drop (size g) old)
+Aligned g old new (Err r) = (r ≡ TargetRotation) × (one_absent g ≡ true)
 
 -- the verdict, and the answer at the front of the list: what is behind it is as it was
-abbrev pub Written : Matrix → List Matrix → List ℕ → ℕ → List Matrix → List ℕ → List ℕ → Verdict → Type 0
-Written t rs images n gs old new (Ok u) =
-    Known (length rs) images n (length gs) (length old)
-    × Checked (align_conditions t rs images n gs (length old)) (Ok tt)
-    × (length (each (λ p. p) (aligned_to n t rs images gs)) ≡ length gs * n)
-    × (new ≡ each (λ p. p) (aligned_to n t rs images gs) ++ drop (length gs * n) old)
-Written t rs images n gs old new (Err r) = Checked (align_conditions t rs images n gs (length old)) (Err r)
+abbrev pub Written : GivenAlignment → List ℕ → List ℕ → Verdict → Type 0
+Written g old new (Ok u) =
+    Known g (length old)
+    × Checked (conditions g (length old)) (Ok tt)
+    × (length (answer g) ≡ size g)
+    × (new ≡ answer g ++ drop (size g) old)
+Written g old new (Err r) = Checked (conditions g (length old)) (Err r)
 
 -- the verdict up to 10: refused, or past the first five conditions
 abbrev pub Given : List Condition → Verdict → Type 0

@@ -22,47 +22,44 @@ pub struct Operations<'a> {
     pub sites: usize,
 }
 
-// Each operation's rotation is transformed once, however many targets there are.
-fn transform_and_put(
-    t: Linear,
-    operations: &Operations,
-    targets: &[Rotation],
-    out: &mut [u8],
-) -> Verdict
-    requires { Known (length operations.now.rotations.now) operations.now.images.now operations.now.sites
-        (length targets.now) (length out.old) }
-    ensures { Aligned t operations.now.rotations.now operations.now.images.now operations.now.sites targets.now
-        out.old out.new result }
-{
-    // no heap: a table for the most operations, of which the first k are written
-    let mut moved = [Integers::ZERO; MOST_OPERATIONS];
-    rotations::put_transformed(t, operations.rotations, &mut moved);
-    let k = operations.rotations.len();
-    targets::put_aligned(&moved[..k], operations, targets, out)
+// What the call is given: the change T to the selected primitive basis, the operations, and the rotations of the targets.
+#[derive(Clone, Copy)]
+pub struct GivenAlignment<'o, 't> {
+    pub t: Linear,
+    pub operations: Operations<'o>,
+    pub targets: &'t [Rotation],
 }
 
-// The answer at the front of the list, or the refusal: 11 is met while the list is written.
-fn align(t: Linear, operations: &Operations, targets: &[Rotation], out: &mut [u8]) -> Verdict
-    ensures { Written t operations.now.rotations.now operations.now.images.now operations.now.sites targets.now
-        out.old out.new result }
-{
-    verdicts::verdict(t, operations, targets, out.len())?;
-    transform_and_put(t, operations, targets, out)
+impl GivenAlignment<'_, '_> {
+    // Each operation's rotation is transformed once, however many targets there are.
+    fn transform_and_put(&self, out: &mut [u8]) -> Verdict
+        requires { Known self.now (length out.old) }
+        ensures { Aligned self.now out.old out.new result }
+    {
+        // no heap: a table for the most operations, of which the first k are written
+        let mut moved = [Integers::ZERO; MOST_OPERATIONS];
+        rotations::put_transformed(self.t, self.operations.rotations, &mut moved);
+        let k = self.operations.rotations.len();
+        self.put_aligned(&moved[..k], out)
+    }
+
+    // The answer at the front of the list, or the refusal: 11 is met while the list is written.
+    fn align(&self, out: &mut [u8]) -> Verdict
+        ensures { Written self.now out.old out.new result }
+    {
+        self.verdict(out.len())?;
+        self.transform_and_put(out)
+    }
 }
 
 // The permutation of each target, target by target.
-pub fn align_permutations(
-    t: Linear,
-    operations: &Operations,
-    targets: &[Rotation],
-    out: &mut [u8],
-) -> Verdict
-    ensures { AlignPromise t operations.now.rotations.now operations.now.images.now operations.now.sites targets.now
-        out.old out.new result }
+pub fn align_permutations(given: &GivenAlignment, out: &mut [u8]) -> Verdict
+    ensures { AlignPromise given.now.t given.now.operations.rotations.now given.now.operations.images.now
+        given.now.operations.sites given.now.targets.now out.old out.new result }
 {
-    let aligned = align(t, operations, targets, out);
+    let aligned = given.align(out);
     match aligned {
-        Ok(()) => clear(out, targets.len() * operations.sites),
+        Ok(()) => clear(out, given.targets.len() * given.operations.sites),
         Err(_) => clear(out, 0),
     }
     aligned
