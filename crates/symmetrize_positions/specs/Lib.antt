@@ -1,2 +1,3 @@
 -- What the calls share.
 pub mod Targets
+pub mod Given

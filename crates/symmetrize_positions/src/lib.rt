@@ -7,11 +7,11 @@ mod targets;
 mod transform;
 mod verdicts;
 
-ghost use Rattle.std.specs.Prelude.{◌≤◌, ◌≡◌, length};
+ghost use Rattle.std.specs.Prelude.{◌≡◌, length};
 ghost use Rattle.definitions.specs.Refusal.{padded};
-ghost use Rattle.definitions.specs.Calls.{symmetrized_cells, transformed_cells, PositionsPromise};
+ghost use Rattle.definitions.specs.Calls.{PositionsPromise};
 ghost use Rattle.definitions.specs.Lent.{zero_cells};
-ghost use Rattle.symmetrize_positions.specs.Targets.{Counted, Permuted};
+ghost use Rattle.symmetrize_positions.specs.Given.{Known, answer};
 
 use crate::targets::Targets;
 use definitions::limits::MOST_SITES;
@@ -26,49 +26,45 @@ pub struct GivenTargets<'a> {
     pub images: &'a [u8],
 }
 
-// The transformed positions, and the answer of them.
-fn transform_and_fill(
-    t: Linear,
-    shift: Position,
-    positions: &[Cells],
-    targets: &GivenTargets,
-    out: &mut [Cells],
-)
-    requires { Counted (length positions.now) (length targets.now.rotations.now)
-        (length targets.now.translations.now) (length targets.now.images.now)
-        × Permuted (length positions.now) (length targets.now.rotations.now) targets.now.images.now
-        × (length positions.now ≤ length out.old) }
-    ensures { out.new ≡ padded zero_cells
-        (symmetrized_cells (transformed_cells t shift positions.now) targets.now.rotations.now
-        targets.now.translations.now targets.now.images.now)
-        (length out.old) }
-{
-    // no heap: a table for the most sites, of which the first n are written
-    let mut held = [Cells::ZERO; MOST_SITES];
-    transform::put_transformed(transform::real_inverse(t), shift, positions, &mut held);
-    let known = Targets {
-        positions: &held[..positions.len()],
-        rotations: targets.rotations,
-        translations: targets.translations,
-        images: targets.images,
-    };
-    known.fill(out);
+// What the call is given: the change T to the selected primitive basis, the shift of the origin, the positions, and the
+// targets.
+#[derive(Clone, Copy)]
+pub struct GivenPositions<'p, 't> {
+    pub t: Linear,
+    pub shift: Position,
+    pub positions: &'p [Cells],
+    pub targets: GivenTargets<'t>,
+}
+
+impl GivenPositions<'_, '_> {
+    // The transformed positions, and the answer of them.
+    fn transform_and_fill(&self, out: &mut [Cells])
+        requires { Known self.now (length out.old) }
+        ensures { out.new ≡ padded zero_cells (answer self.now) (length out.old) }
+    {
+        // no heap: a table for the most sites, of which the first n are written
+        let mut held = [Cells::ZERO; MOST_SITES];
+        let inverse = transform::real_inverse(self.t);
+        transform::put_transformed(inverse, self.shift, self.positions, &mut held);
+        let known = Targets {
+            positions: &held[..self.positions.len()],
+            rotations: self.targets.rotations,
+            translations: self.targets.translations,
+            images: self.targets.images,
+        };
+        known.fill(out);
+    }
 }
 
 // Given positions, made T⁻¹(p - shift) and symmetrised.
-pub fn symmetrize_positions(
-    t: Linear,
-    shift: Position,
-    positions: &[Cells],
-    targets: &GivenTargets,
-    out: &mut [Cells],
-) -> Verdict
-    ensures { PositionsPromise t shift positions.now targets.now.rotations.now targets.now.translations.now
-        targets.now.images.now out.old out.new result }
+pub fn symmetrize_positions(given: &GivenPositions, out: &mut [Cells]) -> Verdict
+    ensures { PositionsPromise given.now.t given.now.shift given.now.positions.now
+        given.now.targets.rotations.now given.now.targets.translations.now given.now.targets.images.now
+        out.old out.new result }
 {
-    match verdicts::verdict(t, shift, positions, targets, out.len()) {
+    match given.verdict(out.len()) {
         Ok(()) => {
-            transform_and_fill(t, shift, positions, targets, out);
+            given.transform_and_fill(out);
             Ok(())
         }
         Err(refusal) => {
