@@ -1,7 +1,7 @@
 -- What the label call and its step know of their arguments once they are tested, what they leave, and how the promise
 -- is kept.
 use Prim.Native.Nat.{ℕ}
-use mathlib.Core.Path.{◌≡◌, refl, ◌∙◌}
+use mathlib.Core.Path.{◌≡◌, refl, sym, ap, ◌∙◌}
 use mathlib.Core.Bool.{Bool, true, false, not, ◌&&◌, ◌||◌}
 use mathlib.Core.List.{List, [], ◌∷◌}
 use lib.Dec.{ltb, ltb→lt}
@@ -43,40 +43,48 @@ module _ (x : LabelArguments) where
   abbrev mapped : Bool
   mapped = bad_mapping x.sites x.mapping
 
-  -- of the lists' lengths
-  module _ (l m : ℕ) where
-    abbrev short : Bool
-    short = any (shorter_than n) (l ∷ m ∷ [])
+  known : counts ≡ false → mapped ≡ false → too_many_listed n ≡ false → Groupable x
+  known counted within few =
+      let s = x.sites in
+      let some = too_many_sites s || not_some x.count in
+      let inside = not-false (all (λ i. ltb i s) x.mapping) within in
+      record {
+        sites = ltb-false 256 s (neither_left (too_many_sites s) (not_some x.count) (neither_left some _ counted));
+        entries = eqb-true _ _ (not-false _ (neither_right some _ counted));
+        within = λ k h. ltb→lt (get_or x.mapping k 0) s (all_at (λ i. ltb i s) x.mapping k 0 (so inside) h);
+        listed = ltb-false 1024 n few;
+      }
 
-    known : counts ≡ false → mapped ≡ false → too_many_listed n ≡ false → short ≡ false → Groupable x × Room n l m
-    known counted within few room =
-        let s = x.sites in
-        let some = too_many_sites s || not_some x.count in
-        let inside = not-false (all (λ i. ltb i s) x.mapping) within in (
-          record {
-            sites = ltb-false 256 s (neither_left (too_many_sites s) (not_some x.count) (neither_left some _ counted));
-            entries = eqb-true _ _ (not-false _ (neither_right some _ counted));
-            within = λ k h. ltb→lt (get_or x.mapping k 0) s (all_at (λ i. ltb i s) x.mapping k 0 (so inside) h);
-            listed = ltb-false 1024 n few;
-          },
-          record {
-            labels = ltb-false l n (none_head (shorter_than n) l (m ∷ []) room);
-            multiplicities =
-                ltb-false m n (none_head (shorter_than n) m [] (none_tail (shorter_than n) l (m ∷ []) room));
-          },
-        )
+  -- of the lists' lengths
+  module _ (rooms : List ℕ) where
+    abbrev short : Bool
+    short = any (shorter_than n) rooms
 
     -- by the step's test
-    pub known_tested : groupable x (l ∷ m ∷ []) ≡ true → Groupable x × Room n l m
-    known_tested h = let (a, b, c, d) = none_of_four counts mapped (too_many_listed n) short h in known a b c d
+    pub known_tested : groupable x rooms ≡ true → Groupable x × (short ≡ false)
+    known_tested h = let (a, b, c, d) = none_of_four counts mapped (too_many_listed n) short h in (known a b c, d)
 
     -- by the call's verdict
-    pub known_accepted : Checked (label_conditions x (l ∷ m ∷ [])) (Ok tt) → Groupable x × Room n l m
+    pub known_accepted : Checked (label_conditions x rooms) (Ok tt) → Groupable x × (short ≡ false)
     unfolding numbered FailAll
     known_accepted c =
-        let fails = past (label_conditions x (l ∷ m ∷ [])) tt c in
-        known (off _ fails.0) (neither_right (bad_images x.sites x.count x.images) _ (off _ fails.1.0))
-        (off _ fails.1.1.0) (off _ fails.1.1.1.0)
+        let fails = past (label_conditions x rooms) tt c in (
+          known (off _ fails.0) (neither_right (bad_images x.sites x.count x.images) _ (off _ fails.1.0))
+              (off _ fails.1.1.0),
+          off _ fails.1.1.1.0,
+        )
+
+    -- of the lists that are lent
+    pub roomy :
+        (e : LabelCells) → rooms ≡ label_rooms e → short ≡ false → Room n (length e.labels) (length e.multiplicities)
+    roomy e same long =
+        let l = length e.labels in
+        let m = length e.multiplicities in
+        let h : any (shorter_than n) (l ∷ m ∷ []) ≡ false = sym (ap (any (shorter_than n)) same) ∙ long in
+        record {
+          labels = ltb-false l n (none_head (shorter_than n) l (m ∷ []) h);
+          multiplicities = ltb-false m n (none_head (shorter_than n) m [] (none_tail (shorter_than n) l (m ∷ []) h));
+        }
 
   -- ---- what is left
 

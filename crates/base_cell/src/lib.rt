@@ -7,13 +7,13 @@ mod labels;
 mod union_find;
 pub mod verdicts;
 
-ghost use Rattle.std.specs.Prelude.{true, length};
-ghost use Rattle.definitions.specs.SiteCalls.{HoldsLabels, LabelPromise, nothing_labelled};
+ghost use Rattle.std.specs.Prelude.{◌≡◌, true, length};
+ghost use Rattle.definitions.specs.SiteCalls.{HoldsLabels, LabelPromise, label_rooms, nothing_labelled};
 ghost use Rattle.base_cell.specs.Given.{arguments_of, orbit_cells, SameRooms, SameOrbits};
 ghost use Rattle.base_cell.specs.Grouping.{Room, LabelsLeft, OrbitsLabelled};
 
 use crate::labels::Grouping;
-use crate::verdicts::Labelling;
+use crate::verdicts::{Labelling, Rooms};
 use definitions::Verdict;
 use lent::clear;
 
@@ -25,6 +25,12 @@ pub struct Orbits<'a> {
 }
 
 impl<'a> Orbits<'a> {
+    fn rooms(&self) -> Rooms
+        ensures { result ≡ label_rooms (orbit_cells self.now) }
+    {
+        [self.labels.len(), self.multiplicities.len()]
+    }
+
     // The answer and zero behind it.
     fn put(&mut self, x: &Grouping)
         requires { Room (length x.now.labelling.mapping.now)
@@ -56,7 +62,7 @@ pub fn label_sites(x: &Labelling, orbits: &mut Orbits) -> Verdict
     ensures rooms { SameRooms (orbit_cells orbits.old) (orbit_cells orbits.new) }
     ensures same_lists { SameOrbits orbits.old orbits.new }
 {
-    match x.accepted(orbits.labels.len(), orbits.multiplicities.len()) {
+    match x.accepted(orbits.rooms()) {
         Ok(grouping) => {
             orbits.put(&grouping);
             Ok(())
@@ -74,7 +80,7 @@ pub fn label_orbits(x: &Labelling, orbits: &mut Orbits)
     ensures rooms { SameRooms (orbit_cells orbits.old) (orbit_cells orbits.new) }
     ensures same_lists { SameOrbits orbits.old orbits.new }
 {
-    match x.tested(orbits.labels.len(), orbits.multiplicities.len()) {
+    match x.tested(orbits.rooms()) {
         Some(grouping) => orbits.put(&grouping),
         None => orbits.clear(),
     }

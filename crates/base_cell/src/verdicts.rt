@@ -1,7 +1,7 @@
 // The verdict of the label call, its refusals in their order, and the test of the step that labels: each decided before
 // anything is written.
 ghost use Rattle.std.specs.List.{list_all};
-ghost use Rattle.std.specs.Prelude.{◌≡◌, [], ◌∷◌, ◌||◌, ltb, length};
+ghost use Rattle.std.specs.Prelude.{◌≡◌, ◌||◌, ltb, length};
 ghost use Rattle.definitions.specs.Refusal.{Checked};
 ghost use Rattle.definitions.specs.Limits.{shorter_than, too_many_listed};
 ghost use Rattle.definitions.specs.Lists.{any};
@@ -16,6 +16,9 @@ use base_permutation::{all_permutations, bad_permutation_counts};
 use definitions::limits::MOST_LISTED;
 use definitions::{Refusal, Verdict};
 use lent::lacks_room;
+
+// How many entries each of the two lists has room for: labels, multiplicities.
+pub(crate) type Rooms = [usize; 2];
 
 // What the call and its step are given: permutations of so many sites, and of each listed site its primitive one.
 #[derive(Clone, Copy)]
@@ -67,15 +70,15 @@ impl<'i, 'm> Labelling<'i, 'm> {
     }
 
     // 10
-    fn lacks_room(&self, labels: usize, multiplicities: usize) -> bool
-        ensures { result ≡ any (shorter_than (length self.now.mapping.now)) (labels ∷ multiplicities ∷ []) }
+    fn lacks_room(&self, rooms: Rooms) -> bool
+        ensures { result ≡ any (shorter_than (length self.now.mapping.now)) rooms }
     {
-        lacks_room(self.mapping.len(), [labels, multiplicities])
+        lacks_room(self.mapping.len(), rooms)
     }
 
     // 2, 5, 9, 10
-    fn verdict(&self, labels: usize, multiplicities: usize) -> Verdict
-        ensures { Checked (label_conditions (arguments_of self.now) (labels ∷ multiplicities ∷ [])) result }
+    fn verdict(&self, rooms: Rooms) -> Verdict
+        ensures { Checked (label_conditions (arguments_of self.now) rooms) result }
     {
         if self.bad_counts() {
             return Err(Refusal::Counts);
@@ -86,15 +89,15 @@ impl<'i, 'm> Labelling<'i, 'm> {
         if self.lists_too_many() {
             return Err(Refusal::ListedSites);
         }
-        if self.lacks_room(labels, multiplicities) {
+        if self.lacks_room(rooms) {
             return Err(Refusal::Buffer);
         }
         Ok(())
     }
 
     // The step's test: as `verdict`, without the costly one, that the images are permutations.
-    fn can_group(&self, labels: usize, multiplicities: usize) -> bool
-        ensures { result ≡ groupable (arguments_of self.now) (labels ∷ multiplicities ∷ []) }
+    fn can_group(&self, rooms: Rooms) -> bool
+        ensures { result ≡ groupable (arguments_of self.now) rooms }
     {
         if self.bad_counts() {
             return false;
@@ -105,26 +108,22 @@ impl<'i, 'm> Labelling<'i, 'm> {
         if self.lists_too_many() {
             return false;
         }
-        !self.lacks_room(labels, multiplicities)
+        !self.lacks_room(rooms)
     }
 
     // What the call groups, or its refusal.
-    pub(crate) fn accepted(
-        &self,
-        labels: usize,
-        multiplicities: usize,
-    ) -> Result<Grouping<'i, 'm>, Refusal>
-        ensures { Accepted self.now labels multiplicities result }
+    pub(crate) fn accepted(&self, rooms: Rooms) -> Result<Grouping<'i, 'm>, Refusal>
+        ensures { Accepted self.now rooms result }
     {
-        self.verdict(labels, multiplicities)?;
+        self.verdict(rooms)?;
         Ok(Grouping { labelling: *self })
     }
 
     // What the step groups.
-    pub(crate) fn tested(&self, labels: usize, multiplicities: usize) -> Option<Grouping<'i, 'm>>
-        ensures { Tested self.now labels multiplicities result }
+    pub(crate) fn tested(&self, rooms: Rooms) -> Option<Grouping<'i, 'm>>
+        ensures { Tested self.now rooms result }
     {
-        if !self.can_group(labels, multiplicities) {
+        if !self.can_group(rooms) {
             return None;
         }
         Some(Grouping { labelling: *self })

@@ -7,10 +7,10 @@ use Rattle.base_cell.proofs.verdicts.Labelling.accepted.Goals as goal
 pub invariant_of-result : goal.invariant_of-result
 invariant_of-result c =
     let a = c.args in
-    record { groupable = (known_accepted (arguments_of a.self.now) a.labels a.multiplicities c.in_ok-verdict.ensures).0 }
+    record { groupable = (known_accepted (arguments_of a.self.now) a.rooms c.in_ok-verdict.ensures).0 }
 
 pub returns : goal.returns
 returns c =
     let a = c.args in
     let checked = c.in_ok-verdict.ensures in
-    ((refl, (known_accepted (arguments_of a.self.now) a.labels a.multiplicities checked).1), checked)
+    ((refl, (known_accepted (arguments_of a.self.now) a.rooms checked).1), checked)

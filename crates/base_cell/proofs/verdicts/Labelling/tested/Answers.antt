@@ -8,10 +8,10 @@ pub invariant_of-result : goal.invariant_of-result
 invariant_of-result c =
     let a = c.args in
     let passed = sym c.can_group.ensures ∙ c.if-not-can_group.false in
-    record { groupable = (known_tested (arguments_of a.self.now) a.labels a.multiplicities passed).0 }
+    record { groupable = (known_tested (arguments_of a.self.now) a.rooms passed).0 }
 
 pub returns : goal.returns
 returns c =
     let a = c.args in
     let passed = sym c.can_group.ensures ∙ c.if-not-can_group.false in
-    ((refl, (known_tested (arguments_of a.self.now) a.labels a.multiplicities passed).1), passed)
+    ((refl, (known_tested (arguments_of a.self.now) a.rooms passed).1), passed)

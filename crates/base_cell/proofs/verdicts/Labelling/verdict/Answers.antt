@@ -1,5 +1,5 @@
 -- `verdict`: each return has tested what comes before it.
-use Rattle.std.proofs.Common.{refl, sym, ◌∙◌, List, [], ◌∷◌}
+use Rattle.std.proofs.Common.{refl, sym, ◌∙◌, List}
 use Rattle.std.specs.Prelude.{Err}
 use Rattle.definitions.specs.declared.Refusal.TheVariants.{Counts, SiteImage, ListedSites, Buffer}
 use Rattle.definitions.specs.Refusal.{Condition}
@@ -11,7 +11,7 @@ use Rattle.base_cell.proofs.verdicts.Labelling.verdict.Goals as goal
 use Rattle.base_cell.proofs.verdicts.Labelling.verdict.Goals.{Else-bad_counts, Else-bad_sites, Else-lists_too_many, Start}
 
 abbrev conditions : Start → List Condition
-conditions s = label_conditions (arguments_of s.args.self.now) (s.args.labels ∷ s.args.multiplicities ∷ [])
+conditions s = label_conditions (arguments_of s.args.self.now) s.args.rooms
 
 -- ---- past each test
 
