@@ -20,8 +20,7 @@ use Rattle.job_laws.proofs.Decode.{job_unique}
 use Rattle.job.specs.Places.{items, run, parts_at, word_at, integer_at, floats_at, entries_at, text_at, lattice_at, cells_from, matrix_from, site_at, operation_at, candidate_at, sites_from, operations_from, images_from, targets_from, rotations_from, candidates_from, symprec_from}
 use Rattle.job.specs.Counted.{JobOf, Counted, counts_are, not_no_job}
 use Rattle.definitions.specs.WholeCalls.{count_conditions, CountPromise}
-use Rattle.job.specs.Given.{given_at, rooms_of, short, counted_given, ReadCounted}
-use Rattle.job.specs.CountedJobs.{Settled}
+use Rattle.job.specs.Given.{given_at, rooms_of, short, Settled, readable, counted_given, ReadCounted}
 use Rattle.job.proofs.Items.{items_from}
 use Rattle.job.proofs.Words.{word8_is}
 
@@ -129,8 +128,8 @@ module _ (bs : List ℕ) (entry exit : Given) where
           with Buffer (refuse cs 1 (not_no_job bs k j, tt) (parts_at bs k, j.is, so (too_short_is k ∙ x.1.2)) (Err Buffer) refl) x.0
 
   -- counted already
-  pub counted-kept : (k : JobCounts) → short k (rooms_of entry) ≡ false → HoldsGiven entry exit (given_at bs k) → ReadCounted bs k entry exit
+  pub counted-kept : (k : JobCounts) → readable bs k (rooms_of entry) ≡ true → HoldsGiven entry exit (given_at bs k) → ReadCounted bs k entry exit
   counted-kept k e h = subst (HoldsGiven entry exit) (sym (given_is bs k) ∙ ap (λ b. counted_given b bs k) (sym e)) h
 
-  pub counted_none : (k : JobCounts) → short k (rooms_of entry) ≡ true → HoldsGiven entry exit nothing_given → ReadCounted bs k entry exit
+  pub counted_none : (k : JobCounts) → readable bs k (rooms_of entry) ≡ false → HoldsGiven entry exit nothing_given → ReadCounted bs k entry exit
   counted_none k e h = subst (HoldsGiven entry exit) (ap (λ b. counted_given b bs k) (sym e)) h

@@ -117,12 +117,38 @@ pub record Enough (k : JobCounts) (e : Rooms) : Type 0 where
   pub letters : k.candidates ≤ e.letters
   pub texts : k.candidates ≤ e.texts
 
+-- what was found of the bytes and of the rooms: 1 first
+abbrev pub Settled : List ℕ → Rooms → Result JobCounts Refusal → Type 0
+Settled bs e (Ok k) = JobOf bs k × (short k e ≡ false)
+Settled bs e (Err r) =
+    ((r ≡ JobBytes) × NoJob bs) ⊎ ((r ≡ Buffer) × ((k : JobCounts) × JobOf bs k × (short k e ≡ true)))
+
 -- ---- a job that is counted already
 
--- what the values are after so many of each command were read: nothing where the lists have no room for them
+-- so many of each command take up n bytes, and a job may have n
+abbrev pub takes_up : JobCounts → ℕ → Bool
+takes_up k n = not (ltb most_bytes n) && eqb (symprec_from k + 10) n
+
+-- a job has no more of any command than bytes
+abbrev pub most_each : JobCounts
+most_each =
+    record {
+      sites = most_bytes;
+      operations = most_bytes;
+      images = most_bytes;
+      targets = most_bytes;
+      rotations = most_bytes;
+      candidates = most_bytes;
+    }
+
+abbrev pub readable : List ℕ → JobCounts → Rooms → Bool
+readable bs k e = takes_up k (length bs) && not (short k e)
+
+-- what the values are after so many of each command were read: nothing where they don't take up the bytes or the lists
+-- have no room for them
 abbrev pub counted_given : Bool → List ℕ → JobCounts → Given
-counted_given true bs k = nothing_given
-counted_given false bs k = given_of (parts_at bs k)
+counted_given true bs k = given_of (parts_at bs k)
+counted_given false bs k = nothing_given
 
 abbrev pub ReadCounted : List ℕ → JobCounts → Given → Given → Type 0
-ReadCounted bs k entry exit = HoldsGiven entry exit (counted_given (short k (rooms_of entry)) bs k)
+ReadCounted bs k entry exit = HoldsGiven entry exit (counted_given (readable bs k (rooms_of entry)) bs k)

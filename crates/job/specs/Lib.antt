@@ -3,5 +3,4 @@ pub mod Places
 pub mod Words
 pub mod Counted
 pub mod Given
-pub mod CountedJobs
 pub mod Alone

@@ -9,10 +9,9 @@ ghost use Rattle.job.specs.Given.{given_in, SameJob, rooms_of, Enough, given_at}
 ghost use Rattle.job.specs.Words.{float_at};
 
 use crate::JobLists;
-use crate::counted_job::CountedJob;
 use crate::lists::put_items;
 use crate::operands::Operand;
-use definitions::{Basis, Cells, Linear, Rotation, Text};
+use definitions::{Basis, Cells, JobCounts, Linear, Rotation, Text};
 
 // S
 fn fill_sites(bytes: &[u8], n: usize, elements: &mut [i32], positions: &mut [Cells])
@@ -89,14 +88,11 @@ fn fill_texts(bytes: &[u8], at: usize, n: usize, texts: &mut [Text])
 
 impl JobLists<'_> {
     // All parts of a job with room for each.
-    pub(crate) fn fill(&mut self, job: &CountedJob)
-        requires { Enough job.now.counts (rooms_of (given_in self.old)) }
-        ensures filled { HoldsGiven (given_in self.old) (given_in self.new)
-            (given_at job.now.bytes.now job.now.counts) }
+    pub(crate) fn fill(&mut self, bytes: &[u8], k: JobCounts)
+        requires { (symprec_from k + 10 ≡ length bytes.now) × Enough k (rooms_of (given_in self.old)) }
+        ensures filled { HoldsGiven (given_in self.old) (given_in self.new) (given_at bytes.now k) }
         ensures same_lists { SameJob self.old self.new }
     {
-        let bytes = job.bytes;
-        let k = job.counts;
         let operations_from = 117 + k.sites * 29;
         let images_from = operations_from + k.operations * 34;
         let targets_from = images_from + k.images * 2;

@@ -3,9 +3,8 @@
 ghost use Rattle.std.specs.Prelude.{◌+◌, ◌<◌, ◌≤◌, ◌≡◌, length};
 ghost use Rattle.job.specs.Places.{Run, Layout, Opens, Closes, symprec_from};
 ghost use Rattle.job.specs.Counted.{Decided, Counted, more_than};
-ghost use Rattle.job.specs.CountedJobs.{CountedIn};
+ghost use Rattle.job.specs.Given.{takes_up};
 
-use crate::counted_job::CountedJob;
 use definitions::limits::MOST_BYTES;
 use definitions::{JobCounts, Refusal};
 
@@ -107,8 +106,31 @@ pub fn more_than(most: JobCounts, k: JobCounts) -> bool
     sites | operations | images | targets | rotations | candidates
 }
 
+// A job has no more of any command than bytes; of so many the place of N is a number that fits.
+const MOST_EACH: JobCounts = JobCounts {
+    sites: MOST_BYTES,
+    operations: MOST_BYTES,
+    images: MOST_BYTES,
+    targets: MOST_BYTES,
+    rotations: MOST_BYTES,
+    candidates: MOST_BYTES,
+};
+
+// Whether so many of each command take up so many bytes, and a job may have these.
+pub(crate) fn takes_up(k: JobCounts, bytes: usize) -> bool
+    ensures { result ≡ takes_up k bytes }
+{
+    if MOST_BYTES < bytes {
+        return false;
+    }
+    if more_than(MOST_EACH, k) {
+        return false;
+    }
+    symprec_from(k) + 10 == bytes
+}
+
 // The numbers of commands if the bytes are a job, else 1.
-pub(crate) fn counts(bytes: &[u8]) -> Result<JobCounts, Refusal>
+pub fn counted(bytes: &[u8]) -> Result<JobCounts, Refusal>
     ensures { Counted bytes.now result }
 {
     if MOST_BYTES < bytes.len() {
@@ -123,12 +145,4 @@ pub(crate) fn counts(bytes: &[u8]) -> Result<JobCounts, Refusal>
         return Err(Refusal::JobBytes);
     }
     Ok(k)
-}
-
-// The bytes with the numbers of commands if they are a job, else 1.
-pub fn counted(bytes: &[u8]) -> Result<CountedJob, Refusal>
-    ensures { CountedIn bytes.now result }
-{
-    let counts = counts(bytes)?;
-    Ok(CountedJob { bytes, counts })
 }

@@ -1,7 +1,6 @@
 // The job's bytes: specs/ proves that they have at most one reading, and `read_job` finds it; `count_job` only counts.
 #![tactic(auto)]
 
-pub mod counted_job;
 mod fill;
 pub mod layout;
 mod lists;
@@ -10,10 +9,8 @@ pub mod room;
 
 ghost use Rattle.std.specs.Prelude.{◌≡◌};
 ghost use Rattle.definitions.specs.WholeCalls.{HoldsGiven, nothing_given, ReadPromise, CountPromise};
-ghost use Rattle.job.specs.Given.{given_in, SameJob, rooms_of, ReadCounted};
-ghost use Rattle.job.specs.CountedJobs.{Settled};
+ghost use Rattle.job.specs.Given.{given_in, SameJob, rooms_of, Settled, ReadCounted};
 
-use crate::counted_job::CountedJob;
 use crate::room::Rooms;
 use definitions::{Basis, Cells, JobCounts, Linear, Refusal, Rotation, Text};
 use lent::{Zero, clear};
@@ -82,15 +79,15 @@ impl JobLists<'_> {
     }
 }
 
-// 1 if the bytes are no job, else 10 if a list is too short for it, else the bytes with the numbers of commands.
-fn settled(bytes: &[u8], rooms: Rooms) -> Result<CountedJob, Refusal>
+// 1 if the bytes are no job, else 10 if a list is too short for it, else the numbers of commands.
+fn settled(bytes: &[u8], rooms: Rooms) -> Result<JobCounts, Refusal>
     ensures { Settled bytes.now rooms result }
 {
-    let job = layout::counted(bytes)?;
-    if rooms.short(job.counts) {
+    let k = layout::counted(bytes)?;
+    if rooms.short(k) {
         return Err(Refusal::Buffer);
     }
-    Ok(job)
+    Ok(k)
 }
 
 // ---- the calls
@@ -99,7 +96,7 @@ fn settled(bytes: &[u8], rooms: Rooms) -> Result<CountedJob, Refusal>
 pub fn count_job(bytes: &[u8]) -> Result<JobCounts, Refusal>
     ensures { CountPromise bytes.now result }
 {
-    layout::counts(bytes)
+    layout::counted(bytes)
 }
 
 // The job of the bytes, in lent values: refused with 1 if they are no job, with 10 if a list is too short for it.
@@ -107,26 +104,23 @@ pub fn read_job(bytes: &[u8], lists: &mut JobLists) -> Result<JobCounts, Refusal
     ensures read { ReadPromise bytes.now (given_in lists.old) (given_in lists.new) result }
     ensures same_lists { SameJob lists.old lists.new }
 {
-    match settled(bytes, lists.rooms()) {
-        Ok(job) => {
-            lists.fill(&job);
-            Ok(job.counts)
-        }
-        Err(refusal) => {
-            lists.clear();
-            Err(refusal)
-        }
+    let counts = settled(bytes, lists.rooms());
+    match counts {
+        Ok(k) => lists.fill(bytes, k),
+        Err(_) => lists.clear(),
     }
+    counts
 }
 
-// A job that is counted, in lent values: for a caller who has counted it. Zero where a list is too short for it.
-pub fn read_counted(job: &CountedJob, lists: &mut JobLists)
-    ensures read { ReadCounted job.now.bytes.now job.now.counts (given_in lists.old) (given_in lists.new) }
+// So many of each command, in lent values: for a caller who has counted them. Zero where they don't take up the bytes
+// or a list is too short for them.
+pub fn read_counted(bytes: &[u8], k: JobCounts, lists: &mut JobLists)
+    ensures read { ReadCounted bytes.now k (given_in lists.old) (given_in lists.new) }
     ensures same_lists { SameJob lists.old lists.new }
 {
-    if lists.rooms().short(job.counts) {
-        lists.clear();
+    if lists.rooms().readable(bytes.len(), k) {
+        lists.fill(bytes, k);
     } else {
-        lists.fill(job);
+        lists.clear();
     }
 }

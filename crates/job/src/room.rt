@@ -1,7 +1,8 @@
 // Whether the lists that are lent have room for a job.
-ghost use Rattle.std.specs.Prelude.{◌≡◌};
-ghost use Rattle.job.specs.Given.{short};
+ghost use Rattle.std.specs.Prelude.{◌≡◌, not, ◌&&◌};
+ghost use Rattle.job.specs.Given.{short, takes_up};
 
+use crate::layout;
 use definitions::JobCounts;
 use lent::lacks_room;
 
@@ -38,5 +39,12 @@ impl Rooms {
                 k.candidates,
                 [self.multiplicities, self.letters, self.texts],
             )
+    }
+
+    // Whether so many of each command take up so many bytes, and no list is too short for them.
+    pub(crate) fn readable(self, bytes: usize, k: JobCounts) -> bool
+        ensures { result ≡ (takes_up k bytes && not (short k self)) }
+    {
+        layout::takes_up(k, bytes) && !self.short(k)
     }
 }

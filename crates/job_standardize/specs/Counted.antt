@@ -7,9 +7,7 @@ use Rattle.definitions.specs.declared.Refusal.{Refusal}
 use Rattle.definitions.specs.declared.Refusal.TheVariants.{Counts}
 use Rattle.definitions.specs.WholeCalls.{AnswerCells, HoldsAnswer, nothing_answered, BytesPromise}
 use Rattle.job.specs.Places.{parts_at}
-use Rattle.job.specs.Counted.{JobOf, counts_are, not_no_job, more_than, Within}
-use Rattle.job.specs.CountedJobs.{CountedIn}
-use Rattle.job.specs.declared.counted_job.CountedJob.{CountedJob}
+use Rattle.job.specs.Counted.{JobOf, Counted, counts_are, not_no_job, more_than, Within}
 use Rattle.job_standardize.specs.Bytes.{no_job_promise, counts_promise}
 use Rattle.job_standardize.specs.Counts.{most_legal, many-bad}
 
@@ -18,20 +16,20 @@ abbrev pub Refuses : List ℕ → Refusal → Type 0
 Refuses bs r =
     (entry exit : AnswerCells) → HoldsAnswer entry exit nothing_answered → BytesPromise bs entry exit (Err r)
 
--- these bytes with counts that a legal job may have, or a refusal
-abbrev pub Legal : List ℕ → Result CountedJob Refusal → Type 0
-Legal bs (Ok j) = (j.bytes.now ≡ bs) × Within most_legal j.counts
+-- counts that a legal job may have, or a refusal
+abbrev pub Legal : List ℕ → Result JobCounts Refusal → Type 0
+Legal bs (Ok k) = JobOf bs k × Within most_legal k
 Legal bs (Err r) = Refuses bs r
 
 module _ (bs : List ℕ) where
-  pub not_counted : (r : Refusal) → CountedIn bs (Err r) → Refuses bs r
+  pub not_counted : (r : Refusal) → Counted bs (Err r) → Refuses bs r
   not_counted r x entry exit zero =
       subst (λ s. BytesPromise bs entry exit (Err s)) (sym x.0) (no_job_promise bs x.1 entry exit zero)
 
   -- what `?` passes on
   pub passed_on :
-      (found : Result CountedJob Refusal) (r : Refusal) → Refuses bs r → IsErrAnd found (λ s. s ≡ r) → Legal bs found
-  passed_on (Ok j) r h e = absurd e
+      (found : Result JobCounts Refusal) (r : Refusal) → Refuses bs r → IsErrAnd found (λ s. s ≡ r) → Legal bs found
+  passed_on (Ok k) r h e = absurd e
   passed_on (Err s) r h e = subst (Refuses bs) (sym e) h
 
   pub too_many : (k : JobCounts) → JobOf bs k → more_than most_legal k ≡ true → Refuses bs Counts

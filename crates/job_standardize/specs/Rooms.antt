@@ -1,6 +1,6 @@
 -- Lists with just the room of a job: it is read into them, and they are its lists.
 use Rattle.std.specs.Prelude.{ℕ, ◌+◌, ◌-◌, ◌≤◌, ◌≡◌, refl, true, false, List, [], ◌∷◌, ◌++◌, map, length, replicate, pos}
-use Rattle.std.proofs.Common.{sym, ap, ◌∙◌, subst, append-nil, arith, le-ltb}
+use Rattle.std.proofs.Common.{sym, ap, ◌∙◌, subst, append-nil, arith, le-ltb, eq-eqb}
 use Rattle.std.proofs.lemmas.List.{length-map, length-replicate}
 use Rattle.definitions.specs.declared.JobCounts.{JobCounts}
 use Rattle.definitions.specs.declared.Position.{Position}
@@ -8,7 +8,7 @@ use Rattle.std.specs.Prelude.{Result}
 use Rattle.definitions.specs.declared.Refusal.{Refusal}
 use Rattle.definitions.specs.declared.AnswerCounts.{AnswerCounts}
 use Rattle.definitions.specs.Lists.{any}
-use Rattle.definitions.specs.Limits.{shorter_than}
+use Rattle.definitions.specs.Limits.{shorter_than, most_bytes}
 use Rattle.definitions.specs.Refusal.{Holds}
 use Rattle.definitions.specs.Job.{Parts, position_of, rows_of}
 use Rattle.definitions.specs.Lent.{cells_of, zero_cells, zero_matrix}
@@ -16,14 +16,15 @@ use Rattle.definitions.specs.WholeCalls.{Given, given_of, zero_text, HoldsGiven,
 use Rattle.definitions.specs.WholeCalls.{BytesPromise}
 use Rattle.laws.specs.Lists.{any_none}
 use Rattle.laws.specs.Tests.{neither}
-use Rattle.job.specs.Places.{parts_at}
+use Rattle.job.specs.Places.{parts_at, symprec_from}
 use Rattle.job.specs.Counted.{JobOf, counts_are, not_no_job}
 use Rattle.job.specs.declared.room.Rooms.{Rooms}
-use Rattle.job.specs.Given.{rooms_of, short, counted_given, ReadCounted}
+use Rattle.job.specs.Given.{rooms_of, short, readable, counted_given, ReadCounted}
 use Rattle.job_standardize.specs.Bytes.{bytes_promise}
 
 -- as many entries in each list as the job has commands
-pub record JustRoom (k : JobCounts) (e : Rooms) : Type 0 where
+pub record JustRoom (bs : List ℕ) (k : JobCounts) (e : Rooms) : Type 0 where
+  pub job : JobOf bs k
   pub elements : e.elements ≡ k.sites
   pub positions : e.positions ≡ k.sites
   pub rotations : e.rotations ≡ k.operations
@@ -72,7 +73,7 @@ itself l zero old cells h e =
     let none_left : length old - length l ≡ 0 = omega (arith, e) in
     h ∙ ap (λ n. l ++ replicate n zero) none_left ∙ append-nil l
 
-module _ (bs : List ℕ) (k : JobCounts) (entry exit : Given) (just : JustRoom k (rooms_of entry)) where
+module _ (bs : List ℕ) (k : JobCounts) (entry exit : Given) (just : JustRoom bs k (rooms_of entry)) where
   fits : short k (rooms_of entry) ≡ false
   fits =
       neither
@@ -87,8 +88,14 @@ module _ (bs : List ℕ) (k : JobCounts) (entry exit : Given) (just : JustRoom k
       (room k.rotations _ just.conventional))
       (three-rooms k.candidates _ _ _ just.multiplicities just.letters just.texts)
 
+  is_readable : readable bs k (rooms_of entry) ≡ true
+  is_readable =
+      let few = le-ltb most_bytes (length bs) just.job.few in
+      let just_so = eq-eqb (symprec_from k + 10) (length bs) just.job.room in
+      rw (few, just_so, fits)
+
   held : ReadCounted bs k entry exit → HoldsGiven entry exit (given_of (parts_at bs k))
-  held h = subst (HoldsGiven entry exit) (ap (λ b. counted_given b bs k) fits) h
+  held h = subst (HoldsGiven entry exit) (ap (λ b. counted_given b bs k) is_readable) h
 
   abbrev p : Parts
   p = parts_at bs k
@@ -158,10 +165,10 @@ module _ (bs : List ℕ) (k : JobCounts) (entry exit : Given) (just : JustRoom k
 
   -- what the call on the lists promises after the reading, the call on bytes does
   pub read_promise :
-      JobOf bs k → ReadCounted bs k entry exit → (old new : AnswerCells) (s : Result AnswerCounts Refusal) →
+      ReadCounted bs k entry exit → (old new : AnswerCells) (s : Result AnswerCounts Refusal) →
       ListsPromise exit old new s → BytesPromise bs old new s
-  read_promise j h old new s promised =
-      bytes_promise bs p j.is (not_no_job bs k j) old new s
+  read_promise h old new s promised =
+      bytes_promise bs p just.job.is (not_no_job bs k just.job) old new s
       (subst (λ x. ListsPromise x old new s) (lists_are (held h)) promised)
 
 -- ---- the shift as a position

@@ -1,11 +1,10 @@
 // The whole call on a job's bytes: they are read into lists of the job's own lengths, and the call on lists answers.
 #![tactic(auto)]
 
-ghost use Rattle.std.specs.Prelude.{◌≡◌, ◌≤◌, length};
-ghost use Rattle.definitions.specs.Limits.{most_images};
+ghost use Rattle.std.specs.Prelude.{◌≡◌, length};
 ghost use Rattle.definitions.specs.WholeCalls.{ListsPromise, BytesPromise};
 ghost use Rattle.job.specs.Given.{given_in, SameJob, rooms_of};
-ghost use Rattle.job.specs.Counted.{Within};
+ghost use Rattle.job.specs.Counted.{JobOf, Within};
 ghost use Rattle.symmetrize_standardize.specs.Given.{answer_cells, SameAnswer};
 ghost use Rattle.job_standardize.specs.Counts.{most_legal};
 ghost use Rattle.job_standardize.specs.Counted.{Legal};
@@ -13,7 +12,6 @@ ghost use Rattle.job_standardize.specs.Rooms.{JustRoom};
 
 use definitions::limits::{MOST_CANDIDATES, MOST_IMAGES, MOST_OPERATIONS, MOST_SITES};
 use definitions::{AnswerCounts, Basis, Cells, JobCounts, Linear, Position, Refusal, Rotation, Text};
-use job::counted_job::CountedJob;
 use job::layout::{counted, more_than};
 use job::{JobLists, read_counted};
 use lent::Zero;
@@ -31,15 +29,15 @@ const MOST_LEGAL: JobCounts = JobCounts {
     candidates: MOST_CANDIDATES,
 };
 
-// The job that is counted: 1 if the bytes are no job, 2 if there are too many of a command.
-fn legal_job(bytes: &[u8]) -> Result<CountedJob, Refusal>
+// How many of each command there are: 1 if the bytes are no job, 2 if there are too many.
+fn legal_counts(bytes: &[u8]) -> Result<JobCounts, Refusal>
     ensures { Legal bytes.now result }
 {
-    let job = counted(bytes)?;
-    if more_than(MOST_LEGAL, job.counts) {
+    let k = counted(bytes)?;
+    if more_than(MOST_LEGAL, k) {
         return Err(Refusal::Counts);
     }
-    Ok(job)
+    Ok(k)
 }
 
 // ---- the call
@@ -73,32 +71,31 @@ fn standardize_lists(lists: &JobLists, answer: &mut Answer) -> Result<AnswerCoun
 
 // The job is read into lists that have just its room, so that the reading cannot refuse, and the call on lists answers.
 fn standardize_read(
-    job: &CountedJob,
+    bytes: &[u8],
+    k: JobCounts,
     lists: &mut JobLists,
     answer: &mut Answer,
 ) -> Result<AnswerCounts, Refusal>
-    requires { JustRoom job.now.counts (rooms_of (given_in lists.old)) }
-    ensures standardized { BytesPromise job.now.bytes.now
-        (answer_cells answer.old) (answer_cells answer.new) result }
+    requires { JustRoom bytes.now k (rooms_of (given_in lists.old)) }
+    ensures standardized { BytesPromise bytes.now (answer_cells answer.old) (answer_cells answer.new) result }
     ensures same_lists { SameJob lists.old lists.new }
     ensures same_answer { SameAnswer answer.old answer.new }
 {
-    read_counted(job, lists);
+    read_counted(bytes, k, lists);
     standardize_lists(lists, answer)
 }
 
 // The same over lists of the greatest lengths, of which only the fronts are lent; the caller has the images.
 fn standardize_counted(
-    job: &CountedJob,
+    bytes: &[u8],
+    k: JobCounts,
     images: &mut [u8],
     answer: &mut Answer,
 ) -> Result<AnswerCounts, Refusal>
-    requires { Within most_legal job.now.counts × (length images.old ≡ job.now.counts.images) }
-    ensures standardized { BytesPromise job.now.bytes.now
-        (answer_cells answer.old) (answer_cells answer.new) result }
+    requires { JobOf bytes.now k × Within most_legal k × (length images.old ≡ k.images) }
+    ensures standardized { BytesPromise bytes.now (answer_cells answer.old) (answer_cells answer.new) result }
     ensures same_answer { SameAnswer answer.old answer.new }
 {
-    let k = job.counts;
     let mut elements = [0i32; MOST_SITES];
     let mut positions = [Cells::ZERO; MOST_SITES];
     let mut rotations = [Rotation::ZERO; MOST_OPERATIONS];
@@ -127,21 +124,7 @@ fn standardize_counted(
         texts: &mut texts[..k.candidates],
         symprec: 0.0,
     };
-    standardize_read(job, &mut lists, answer)
-}
-
-// The same with room for N images.
-fn standardize_within<const N: usize>(
-    job: &CountedJob,
-    answer: &mut Answer,
-) -> Result<AnswerCounts, Refusal>
-    requires { Within most_legal job.now.counts × (job.now.counts.images ≤ N) × (N ≤ most_images) }
-    ensures standardized { BytesPromise job.now.bytes.now
-        (answer_cells answer.old) (answer_cells answer.new) result }
-    ensures same_answer { SameAnswer answer.old answer.new }
-{
-    let mut images = [0u8; N];
-    standardize_counted(job, &mut images[..job.counts.images], answer)
+    standardize_read(bytes, k, &mut lists, answer)
 }
 
 // A job's standard cell with its listed sites, their labels and their letters; all zero after a refusal.
@@ -149,13 +132,14 @@ pub fn standardize_bytes(bytes: &[u8], answer: &mut Answer) -> Result<AnswerCoun
     ensures standardized { BytesPromise bytes.now (answer_cells answer.old) (answer_cells answer.new) result }
     ensures same_answer { SameAnswer answer.old answer.new }
 {
-    match legal_job(bytes) {
-        Ok(job) => {
-            if job.counts.images <= USUAL_IMAGES {
-                standardize_within::<USUAL_IMAGES>(&job, answer)
-            } else {
-                standardize_within::<MOST_IMAGES>(&job, answer)
+    match legal_counts(bytes) {
+        Ok(k) => {
+            if k.images <= USUAL_IMAGES {
+                let mut images = [0u8; USUAL_IMAGES];
+                return standardize_counted(bytes, k, &mut images[..k.images], answer);
             }
+            let mut images = [0u8; MOST_IMAGES];
+            standardize_counted(bytes, k, &mut images[..k.images], answer)
         }
         Err(refusal) => {
             answer.clear();

@@ -1,27 +1,23 @@
--- The lent values hold the job that is counted, or are zero.
+-- The lent values hold what is read of counted commands, or are zero.
 use mathlib.Core.Path.{◌≡◌, sym, ap, ◌∙◌}
-use Rattle.job.specs.Given.{given_in, rooms_of, short}
-use Rattle.job.proofs.Rooms.{enough}
+use Rattle.job.specs.Given.{given_in, rooms_of, readable}
+use Rattle.job.proofs.Rooms.{read_so}
 use Rattle.job.proofs.Promise.{counted-kept, counted_none}
 use Rattle.job.proofs.read_counted.Goals as goal
-use Rattle.job.proofs.read_counted.Goals.{After-short}
+use Rattle.job.proofs.read_counted.Goals.{After-readable}
 
 -- the test, of the lists as they were lent
-tested :
-    (c : After-short) → let a = c.args in c.short.result ≡ short a.job.now.counts (rooms_of (given_in a.lists.now))
-tested c = let a = c.args in c.short.ensures ∙ ap (short a.job.now.counts) c.rooms.ensures
+tested : (c : After-readable) → let a = c.args in c.readable.result ≡ readable a.bytes.now a.k (rooms_of (given_in a.lists.now))
+tested c = let a = c.args in c.readable.ensures ∙ ap (readable a.bytes.now a.k) c.rooms.ensures
 
 pub fill-requires : goal.fill-requires
 fill-requires c =
-    enough c.args.job.now.counts (rooms_of (given_in c.args.lists.now))
-    (sym (tested (goal.at.fill-requires c).After-short) ∙ c.if-short.false)
+    read_so c.args.bytes.now c.args.k (rooms_of (given_in c.args.lists.now)) (sym (tested (goal.at.fill-requires c).After-readable) ∙ c.if-readable.true)
 
-pub returns-then-short-clause-read : goal.returns-then-short-clause-read
-returns-then-short-clause-read c =
-    counted_none c.args.job.now.bytes.now _ _ c.args.job.now.counts
-    (sym (tested (goal.at.returns-then-short-clause-read c).After-short) ∙ c.if-short.true) c.clear.ensures.zero
+pub returns-then-readable-clause-read : goal.returns-then-readable-clause-read
+returns-then-readable-clause-read c =
+    counted-kept c.args.bytes.now _ _ c.args.k (sym (tested (goal.at.returns-then-readable-clause-read c).After-readable) ∙ c.if-readable.true) c.fill.ensures.filled
 
-pub returns-else-short-clause-read : goal.returns-else-short-clause-read
-returns-else-short-clause-read c =
-    counted-kept c.args.job.now.bytes.now _ _ c.args.job.now.counts
-    (sym (tested (goal.at.returns-else-short-clause-read c).After-short) ∙ c.if-short.false) c.fill.ensures.filled
+pub returns-else-readable-clause-read : goal.returns-else-readable-clause-read
+returns-else-readable-clause-read c =
+    counted_none c.args.bytes.now _ _ c.args.k (sym (tested (goal.at.returns-else-readable-clause-read c).After-readable) ∙ c.if-readable.false) c.clear.ensures.zero

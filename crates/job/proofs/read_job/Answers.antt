@@ -1,35 +1,37 @@
 -- The lent values hold the job, or are zero.
 use mathlib.Core.Path.{subst}
-use Rattle.std.specs.Prelude.{Ok, Err}
-use Rattle.job.specs.Given.{given_in, rooms_of, given_at}
-use Rattle.job.specs.CountedJobs.{Settled}
-use Rattle.definitions.specs.WholeCalls.{HoldsGiven}
+use Rattle.std.specs.Prelude.{Ok}
+use Rattle.job.specs.declared.room.Rooms.{Rooms}
+use Rattle.job.specs.Given.{given_in, rooms_of, Settled}
 use Rattle.job.proofs.Rooms.{enough}
 use Rattle.job.proofs.Promise.{read_kept, refused_kept}
 use Rattle.job.proofs.read_job.Goals as goal
-use Rattle.job.proofs.read_job.Goals.{In-Ok}
+use Rattle.job.proofs.read_job.Goals.{Start, In-Ok}
 
-found : (c : In-Ok) → Settled c.args.bytes.now (rooms_of (given_in c.args.lists.now)) (Ok c.in-Ok.job)
+abbrev rooms_at : Start → Rooms
+rooms_at s = rooms_of (given_in s.args.lists.now)
+
+abbrev start : In-Ok → Start
+start c = (goal.at.In-Ok c).Start
+
+found : (c : In-Ok) → Settled (start c).args.bytes.now (rooms_at (start c)) (Ok c.in-Ok.k)
 found c =
-    let bytes = c.args.bytes.now in
-    subst (λ r. Settled bytes r (Ok c.in-Ok.job)) c.rooms.ensures c.in-Ok.ensures
+    let bytes = (start c).args.bytes.now in
+    subst (Settled bytes (rooms_at (start c))) c.in-Ok.is (subst (λ r. Settled bytes r c.settled-counts.result) c.rooms.ensures c.settled-counts.ensures)
 
 pub fill-requires : goal.fill-requires
 fill-requires c =
-    let t = (goal.at.fill-requires c).In-Ok in
-    enough t.in-Ok.job.counts (rooms_of (given_in t.args.lists.now)) (found t).2
+    let f = found (goal.at.fill-requires c).In-Ok in
+    (f.0.room, enough c.in-Ok.k (rooms_at (goal.at.fill-requires c).Start) f.1)
 
 pub returns-in-Ok-clause-read : goal.returns-in-Ok-clause-read
 returns-in-Ok-clause-read c =
-    let t = (goal.at.returns-in-Ok-clause-read c).In-Ok in
-    let f = found t in
-    let k = t.in-Ok.job.counts in
-    let entry = given_in t.args.lists.now in
-    let exit = given_in c.fill.new.self in
-    read_kept t.args.bytes.now entry exit k f.1 f.2
-    (subst (λ bs. HoldsGiven entry exit (given_at bs k)) f.0 c.fill.ensures.filled)
+    let f = found (goal.at.returns-in-Ok-clause-read c).In-Ok in
+    read_kept c.args.bytes.now _ _ c.in-Ok.k f.0 f.1 c.fill.ensures.filled
 
 pub returns-in-Err-clause-read : goal.returns-in-Err-clause-read
 returns-in-Err-clause-read c =
     let bytes = c.args.bytes.now in
-    refused_kept bytes _ _ c.in-Err.refusal (subst (λ r. Settled bytes r (Err c.in-Err.refusal)) c.rooms.ensures c.in-Err.ensures) c.clear.ensures.zero
+    let rooms = rooms_of (given_in c.args.lists.now) in
+    let settled = subst (Settled bytes rooms) c.in-Err.is (subst (λ r. Settled bytes r c.settled-counts.result) c.rooms.ensures c.settled-counts.ensures) in
+    rw c.in-Err.is (refused_kept bytes _ _ c.in-Err.field-0 settled c.clear.ensures.zero)

@@ -11,13 +11,14 @@ use Rattle.job_standardize.proofs.standardize_counted.Goals as goal
 
 pub standardize_read-requires : goal.standardize_read-requires
 standardize_read-requires c =
-    let few = c.requires.0 in
+    let few = c.requires.1 in
     record {
+      job = c.requires.0;
       elements = length-take-le _ _ (front_length _ most_sites (pos 0) few.sites);
       positions = length-take-le _ _ (front_length _ most_sites zero_cells few.sites);
       rotations = length-take-le _ _ (front_length _ most_operations zero_matrix few.operations);
       translations = length-take-le _ _ (front_length _ most_operations zero_cells few.operations);
-      images = c.requires.1;
+      images = c.requires.2;
       rotations_of_targets = length-take-le _ _ (front_length _ most_operations zero_matrix few.targets);
       translations_of_targets = length-take-le _ _ (front_length _ most_operations zero_cells few.targets);
       conventional = length-take-le _ _ (front_length _ most_operations zero_matrix few.rotations);

@@ -7,7 +7,5 @@ use Rattle.job_standardize.proofs.standardize_read.Goals as goal
 pub returns-clause-standardized : goal.returns-clause-standardized
 returns-clause-standardized c =
     let a = c.args in
-    let j = a.job.now in
-    read_promise j.bytes.now j.counts (given_in a.lists.now) (given_in c.read_counted.new.lists) c.requires j.job
-    c.read_counted.ensures.read (answer_cells a.answer.now) (answer_cells c.standardize_lists.new.answer)
-    c.standardize_lists.result c.standardize_lists.ensures.standardized
+    read_promise a.bytes.now a.k (given_in a.lists.now) (given_in c.read_counted.new.lists) c.requires c.read_counted.ensures.read
+    (answer_cells a.answer.now) (answer_cells c.standardize_lists.new.answer) c.standardize_lists.result c.standardize_lists.ensures.standardized

@@ -12,53 +12,53 @@ use Rattle.job.proofs.JobLists.fill.Goals.{Start}
 
 -- ---- what is read ends within the bytes
 
-sites_room : (s : Start) → 127 + s.args.job.now.counts.sites * 29 ≤ length s.args.job.now.bytes.now
-sites_room s = omega (arith, s.args.job.now.job.room)
+sites_room : (s : Start) → 127 + s.args.k.sites * 29 ≤ length s.args.bytes.now
+sites_room s = omega (arith, s.requires.0)
 
-operations_room : (s : Start) → operations_from s.args.job.now.counts + s.args.job.now.counts.operations * 34 + 10 ≤ length s.args.job.now.bytes.now
-operations_room s = omega (arith, s.args.job.now.job.room)
+operations_room : (s : Start) → operations_from s.args.k + s.args.k.operations * 34 + 10 ≤ length s.args.bytes.now
+operations_room s = omega (arith, s.requires.0)
 
-images_room : (s : Start) → images_from s.args.job.now.counts + s.args.job.now.counts.images * 2 + 10 ≤ length s.args.job.now.bytes.now
-images_room s = omega (arith, s.args.job.now.job.room)
+images_room : (s : Start) → images_from s.args.k + s.args.k.images * 2 + 10 ≤ length s.args.bytes.now
+images_room s = omega (arith, s.requires.0)
 
-targets_room : (s : Start) → targets_from s.args.job.now.counts + s.args.job.now.counts.targets * 34 + 10 ≤ length s.args.job.now.bytes.now
-targets_room s = omega (arith, s.args.job.now.job.room)
+targets_room : (s : Start) → targets_from s.args.k + s.args.k.targets * 34 + 10 ≤ length s.args.bytes.now
+targets_room s = omega (arith, s.requires.0)
 
-rotations_room : (s : Start) → rotations_from s.args.job.now.counts + s.args.job.now.counts.rotations * 10 + 10 ≤ length s.args.job.now.bytes.now
-rotations_room s = omega (arith, s.args.job.now.job.room)
+rotations_room : (s : Start) → rotations_from s.args.k + s.args.k.rotations * 10 + 10 ≤ length s.args.bytes.now
+rotations_room s = omega (arith, s.requires.0)
 
-candidates_room_lem : (s : Start) → candidates_from s.args.job.now.counts + s.args.job.now.counts.candidates * 68 + 10 ≤ length s.args.job.now.bytes.now
-candidates_room_lem s = omega (arith, s.args.job.now.job.room)
+candidates_room_lem : (s : Start) → candidates_from s.args.k + s.args.k.candidates * 68 + 10 ≤ length s.args.bytes.now
+candidates_room_lem s = omega (arith, s.requires.0)
 
-symprec_room : (s : Start) → symprec_from s.args.job.now.counts + 10 ≤ length s.args.job.now.bytes.now
-symprec_room s = omega (arith, s.args.job.now.job.room)
+symprec_room : (s : Start) → symprec_from s.args.k + 10 ≤ length s.args.bytes.now
+symprec_room s = omega (arith, s.requires.0)
 
 pub fill_sites-requires : goal.fill_sites-requires
 fill_sites-requires c =
-    (sites_room (goal.at.fill_sites-requires c).Start, c.requires.elements, c.requires.positions)
+    (sites_room (goal.at.fill_sites-requires c).Start, c.requires.1.elements, c.requires.1.positions)
 
 pub fill_operations-requires : goal.fill_operations-requires
 fill_operations-requires c =
-    (operations_room (goal.at.fill_operations-requires c).Start, c.requires.rotations, c.requires.translations)
+    (operations_room (goal.at.fill_operations-requires c).Start, c.requires.1.rotations, c.requires.1.translations)
 
 pub fill_images-requires : goal.fill_images-requires
 fill_images-requires c =
-    (images_room (goal.at.fill_images-requires c).Start, c.requires.images)
+    (images_room (goal.at.fill_images-requires c).Start, c.requires.1.images)
 
 pub fill_operations-requires-2 : goal.fill_operations-requires-2
 fill_operations-requires-2 c =
-    (targets_room (goal.at.fill_operations-requires-2 c).Start, c.requires.rotations_of_targets, c.requires.translations_of_targets)
+    (targets_room (goal.at.fill_operations-requires-2 c).Start, c.requires.1.rotations_of_targets, c.requires.1.translations_of_targets)
 
 pub fill_conventional-requires : goal.fill_conventional-requires
 fill_conventional-requires c =
-    (rotations_room (goal.at.fill_conventional-requires c).Start, c.requires.conventional)
+    (rotations_room (goal.at.fill_conventional-requires c).Start, c.requires.1.conventional)
 
 pub fill_candidates-requires : goal.fill_candidates-requires
 fill_candidates-requires c =
-    (candidates_room_lem (goal.at.fill_candidates-requires c).Start, c.requires.multiplicities, c.requires.letters)
+    (candidates_room_lem (goal.at.fill_candidates-requires c).Start, c.requires.1.multiplicities, c.requires.1.letters)
 
 pub fill_texts-requires : goal.fill_texts-requires
-fill_texts-requires c = (candidates_room_lem (goal.at.fill_texts-requires c).Start, c.requires.texts)
+fill_texts-requires c = (candidates_room_lem (goal.at.fill_texts-requires c).Start, c.requires.1.texts)
 
 pub returns-clause-filled : goal.returns-clause-filled
 returns-clause-filled c =
@@ -78,5 +78,5 @@ returns-clause-filled c =
       multiplicities = c.fill_candidates.ensures.0;
       letters = c.fill_candidates.ensures.1;
       texts = c.fill_texts.ensures;
-      symprec = c.read-self-5.ensures ∙ ap float (sym (word8_is c.args.job.now.bytes.now (symprec_from c.args.job.now.counts + 1)));
+      symprec = c.read-self-5.ensures ∙ ap float (sym (word8_is c.args.bytes.now (symprec_from c.args.k + 1)));
     }

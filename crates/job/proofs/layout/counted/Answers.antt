@@ -7,7 +7,7 @@ use Rattle.definitions.specs.Limits.{most_bytes}
 use Rattle.job_laws.specs.Reader.{bytes_known}
 use Rattle.job.specs.Places.{Closes}
 use Rattle.job.proofs.Jobs.{too_long, opens_not, closes_not, a_job}
-use Rattle.job.proofs.layout.counts.Goals as goal
+use Rattle.job.proofs.layout.counted.Goals as goal
 
 pub returns-then-bytes-gt-MOST_BYTES : goal.returns-then-bytes-gt-MOST_BYTES
 returns-then-bytes-gt-MOST_BYTES c = (refl, too_long c.args.bytes.now (omega (arith, c.if-bytes-gt-MOST_BYTES.true)))
