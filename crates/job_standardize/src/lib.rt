@@ -1,7 +1,8 @@
 // The whole call on a job's bytes: they are read into lists of the job's own lengths, and the call on lists answers.
 #![tactic(auto)]
 
-ghost use Rattle.std.specs.Prelude.{◌≡◌, length};
+ghost use Rattle.std.specs.Prelude.{◌≡◌, ◌≤◌, length};
+ghost use Rattle.definitions.specs.Limits.{most_images};
 ghost use Rattle.definitions.specs.WholeCalls.{ListsPromise, BytesPromise};
 ghost use Rattle.job.specs.Given.{given_in, SameJob, rooms_of};
 ghost use Rattle.job.specs.Counted.{JobOf, Within};
@@ -127,6 +128,20 @@ fn standardize_counted(
     standardize_read(bytes, k, &mut lists, answer)
 }
 
+// The same with room for N images.
+fn standardize_within<const N: usize>(
+    bytes: &[u8],
+    k: JobCounts,
+    answer: &mut Answer,
+) -> Result<AnswerCounts, Refusal>
+    requires { JobOf bytes.now k × Within most_legal k × (k.images ≤ N) × (N ≤ most_images) }
+    ensures standardized { BytesPromise bytes.now (answer_cells answer.old) (answer_cells answer.new) result }
+    ensures same_answer { SameAnswer answer.old answer.new }
+{
+    let mut images = [0u8; N];
+    standardize_counted(bytes, k, &mut images[..k.images], answer)
+}
+
 // A job's standard cell with its listed sites, their labels and their letters; all zero after a refusal.
 pub fn standardize_bytes(bytes: &[u8], answer: &mut Answer) -> Result<AnswerCounts, Refusal>
     ensures standardized { BytesPromise bytes.now (answer_cells answer.old) (answer_cells answer.new) result }
@@ -135,11 +150,10 @@ pub fn standardize_bytes(bytes: &[u8], answer: &mut Answer) -> Result<AnswerCoun
     match legal_counts(bytes) {
         Ok(k) => {
             if k.images <= USUAL_IMAGES {
-                let mut images = [0u8; USUAL_IMAGES];
-                return standardize_counted(bytes, k, &mut images[..k.images], answer);
+                standardize_within::<USUAL_IMAGES>(bytes, k, answer)
+            } else {
+                standardize_within::<MOST_IMAGES>(bytes, k, answer)
             }
-            let mut images = [0u8; MOST_IMAGES];
-            standardize_counted(bytes, k, &mut images[..k.images], answer)
         }
         Err(refusal) => {
             answer.clear();

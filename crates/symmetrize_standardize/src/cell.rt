@@ -9,13 +9,13 @@ ghost use Rattle.symmetrize_standardize.specs.Given.{given_by};
 ghost use Rattle.symmetrize_standardize.specs.Stages.{CellListed};
 
 use crate::Job;
-use base_transformation::cell::{Listing, list_copies};
+use base_transformation::cell::{Listing, PrimitiveSites, list_copies};
 use base_transformation::lattice_points;
 use checks::copies;
 use definitions::limits::MOST_COPIES;
 use definitions::{Cells, Linear, Point};
 use lent::Zero;
-use symmetrize_positions::{GivenTargets, symmetrize_positions};
+use symmetrize_positions::{GivenPositions, GivenTargets, symmetrize_positions};
 
 // C's points in a list, and how many there are: of its own, since that C is three rows of three is read off the type of
 // what comes by value.
@@ -36,14 +36,22 @@ pub(crate) fn list_cell(job: &Job, aligned: &[u8], primitive: &mut [Cells], list
     ensures rooms { SameRooms (held listing.old) (held listing.new) }
     ensures same_lists { SameLists listing.old listing.new }
 {
-    let targets = GivenTargets {
-        rotations: job.rotations_of_targets,
-        translations: job.translations_of_targets,
-        images: aligned,
+    let given = GivenPositions {
+        t: job.t,
+        shift: job.shift,
+        positions: job.positions,
+        targets: GivenTargets {
+            rotations: job.rotations_of_targets,
+            translations: job.translations_of_targets,
+            images: aligned,
+        },
     };
-    let _ = symmetrize_positions(job.t, job.shift, job.positions, &targets, primitive);
+    let _ = symmetrize_positions(&given, primitive);
     let mut points = [Point::ZERO; MOST_COPIES];
     let m = put_points(job.c, &mut points);
-    let symmetrised = &primitive[..job.positions.len()];
-    list_copies(job.c, &points[..m], job.elements, symmetrised, listing);
+    let sites = PrimitiveSites {
+        elements: job.elements,
+        positions: &primitive[..job.positions.len()],
+    };
+    list_copies(job.c, &points[..m], &sites, listing);
 }

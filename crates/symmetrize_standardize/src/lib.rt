@@ -26,7 +26,7 @@ use data_wyckoff::space::{Space, prepare_all};
 use definitions::limits::{MOST_CANDIDATES, MOST_IMAGES};
 use definitions::{AnswerCounts, Basis, Cells, Linear, Point, Position, Refusal, Rotation, Text};
 use lent::{Zero, clear, lacks_room};
-use symmetrize_align::{Operations, align_permutations};
+use symmetrize_align::{GivenAlignment, Operations, align_permutations};
 use symmetrize_lattice::{GivenLattice, symmetrize_lattice};
 use symmetrize_wyckoff::arguments::Placed;
 
@@ -172,12 +172,16 @@ fn answer_with(job: &Job, aligned: &mut [u8], answer: &mut Answer) -> Result<Ans
     let mut table = [Space::ZERO; MOST_CANDIDATES];
     let spaces = &mut table[..verdicts::candidates_room(job.texts.len())];
     let prepared = prepare_all(job.texts, spaces);
-    let operations = Operations {
-        rotations: job.rotations,
-        images: job.images,
-        sites: job.positions.len(),
+    let alignment = GivenAlignment {
+        t: job.t,
+        operations: Operations {
+            rotations: job.rotations,
+            images: job.images,
+            sites: job.positions.len(),
+        },
+        targets: job.rotations_of_targets,
     };
-    let found = align_permutations(job.t, &operations, job.rotations_of_targets, aligned);
+    let found = align_permutations(&alignment, aligned);
     let given = GivenLattice {
         lattice: job.lattice,
         t: job.t,

@@ -1,7 +1,7 @@
 // The call that lists the copies of sites: positions, points, mapping and elements.
 use crate::records::print_verdict;
 use crate::streams::Streams;
-use base_transformation::cell::{Listing, list_sites};
+use base_transformation::cell::{Listing, PrimitiveSites, list_sites};
 use std::io::{self, Read, Write};
 
 pub(crate) fn run_list<R: Read, W: Write>(streams: &mut Streams<R, W>) -> io::Result<()> {
@@ -18,7 +18,11 @@ pub(crate) fn run_list<R: Read, W: Write>(streams: &mut Streams<R, W>) -> io::Re
         mapping: &mut mapping,
         elements: &mut out_elements,
     };
-    let v = list_sites(c, &elements, &positions, &mut listing);
+    let sites = PrimitiveSites {
+        elements: &elements,
+        positions: &positions,
+    };
+    let v = list_sites(c, &sites, &mut listing);
     print_verdict(streams, v)?;
     streams.show_all(&out_positions)?;
     streams.show_all(&out_points)?;

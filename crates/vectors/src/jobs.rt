@@ -78,23 +78,23 @@ fn lend_given<R: Read, W: Write>(streams: &mut Streams<R, W>) -> io::Result<JobV
 }
 
 // what a job has one of, then the lists behind the images, then those before
-fn show_given<R: Read, W: Write>(streams: &mut Streams<R, W>, job: &JobVecs) -> io::Result<()> {
+fn show_given<R: Read, W: Write>(streams: &mut Streams<R, W>, job: &JobLists) -> io::Result<()> {
     streams.show(job.lattice)?;
     streams.show(job.t)?;
     streams.show(job.shift)?;
     streams.show(job.c)?;
     streams.show(job.symprec)?;
-    streams.show_all(&job.rotations_of_targets)?;
-    streams.show_all(&job.translations_of_targets)?;
-    streams.show_all(&job.conventional)?;
-    streams.show_all(&job.multiplicities)?;
-    streams.show_all(&job.letters)?;
-    streams.show_all(&job.texts)?;
-    streams.show_all(&job.elements)?;
-    streams.show_all(&job.positions)?;
-    streams.show_all(&job.rotations)?;
-    streams.show_all(&job.translations)?;
-    streams.show_all(&job.images)
+    streams.show_all(job.rotations_of_targets)?;
+    streams.show_all(job.translations_of_targets)?;
+    streams.show_all(job.conventional)?;
+    streams.show_all(job.multiplicities)?;
+    streams.show_all(job.letters)?;
+    streams.show_all(job.texts)?;
+    streams.show_all(job.elements)?;
+    streams.show_all(job.positions)?;
+    streams.show_all(job.rotations)?;
+    streams.show_all(job.translations)?;
+    streams.show_all(job.images)
 }
 
 // ---- an answer's lists
@@ -253,10 +253,10 @@ pub(crate) fn run_read<R: Read, W: Write>(streams: &mut Streams<R, W>) -> io::Re
     let bytes = streams.read_long()?;
     let mut job = lend_given(streams)?;
     let mut lists = JobLists {
-        lattice: &mut job.lattice,
-        t: &mut job.t,
-        shift: &mut job.shift,
-        c: &mut job.c,
+        lattice: job.lattice,
+        t: job.t,
+        shift: job.shift,
+        c: job.c,
         elements: &mut job.elements,
         positions: &mut job.positions,
         rotations: &mut job.rotations,
@@ -268,12 +268,12 @@ pub(crate) fn run_read<R: Read, W: Write>(streams: &mut Streams<R, W>) -> io::Re
         multiplicities: &mut job.multiplicities,
         letters: &mut job.letters,
         texts: &mut job.texts,
-        symprec: &mut job.symprec,
+        symprec: job.symprec,
     };
     let said = read_job(&bytes, &mut lists);
     match said {
         Ok(k) => show_counts(streams, k)?,
         Err(refusal) => print_refused(streams, refusal)?,
     }
-    show_given(streams, &job)
+    show_given(streams, &lists)
 }

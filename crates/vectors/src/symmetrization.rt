@@ -4,7 +4,7 @@ use crate::streams::Streams;
 use definitions::{Bases, Basis, Cells, Position};
 use std::io::{self, Read, Write};
 use symmetrize_lattice::{GivenLattice, symmetrize_lattice};
-use symmetrize_positions::{GivenTargets, symmetrize_positions};
+use symmetrize_positions::{GivenPositions, GivenTargets, symmetrize_positions};
 
 pub(crate) fn run_positions<R: Read, W: Write>(streams: &mut Streams<R, W>) -> io::Result<()> {
     let t = streams.read()?;
@@ -14,12 +14,17 @@ pub(crate) fn run_positions<R: Read, W: Write>(streams: &mut Streams<R, W>) -> i
     let translations = streams.read_list()?;
     let images = streams.read_list()?;
     let mut out = streams.lend()?;
-    let targets = GivenTargets {
-        rotations: &rotations,
-        translations: &translations,
-        images: &images,
+    let given = GivenPositions {
+        t,
+        shift,
+        positions: &positions,
+        targets: GivenTargets {
+            rotations: &rotations,
+            translations: &translations,
+            images: &images,
+        },
     };
-    let v = symmetrize_positions(t, shift, &positions, &targets, &mut out);
+    let v = symmetrize_positions(&given, &mut out);
     print_verdict(streams, v)?;
     streams.show_all(&out)
 }
