@@ -1,7 +1,7 @@
 -- The tests of the guard, as the code joins them and as the definition does; and what they say where they hold.
 use Prim.Native.Nat.{ℕ, ◌≤◌}
-use mathlib.Core.Path.{◌≡◌, refl, sym, ◌∙◌}
-use mathlib.Core.Bool.{Bool, true, false, not, ◌&&◌, ◌||◌}
+use mathlib.Core.Path.{◌≡◌, refl, sym, ap, ◌∙◌}
+use mathlib.Core.Bool.{Bool, true, false, not, ◌&&◌, ◌||◌, and_assoc}
 use mathlib.Core.List.{List, [], ◌∷◌}
 use borrow.Author.Tests.{ltb-true, ltb-false, le-leb, lt-leb, eqb-true, not-false}
 use lib.Dec.{T, leb, ltb, eqb, ltb→lt}
@@ -10,8 +10,7 @@ use Rattle.definitions.specs.Limits.{too_many_listed, too_many_candidates, short
 use Rattle.definitions.specs.Lent.{unlike}
 use Rattle.definitions.specs.Lists.{all, any}
 use Rattle.definitions.specs.SiteCalls.{AssignArguments, space_rooms, assignable}
-use Rattle.laws.specs.Lists.{all_at, none_head, none_tail, list_any-is_any}
-use Rattle.std.specs.List.{list_any}
+use Rattle.laws.specs.Lists.{all_at, none_head, none_tail}
 use Rattle.data_wyckoff.specs.declared.space.Space as code
 use Rattle.data_wyckoff.specs.Spaces.{lists}
 use Rattle.data_wyckoff.proofs.Promise.{rooms_alike}
@@ -31,28 +30,48 @@ pub six-same :
     (a && b && c && d && e && f) ≡ (a' && b' && c' && d' && e' && f')
 six-same p q r s t u = λ i. p i && q i && r i && s i && t i && u i
 
-alone : (b : Bool) → (b || false) ≡ b
-alone true = refl
-alone false = refl
+-- eight tests, two and two of them each as one
+pub eight-six :
+    {a a' b b' c' d' e e' f f' : Bool} (c₁ c₂ d₁ d₂ : Bool) → a ≡ a' → b ≡ b' → (c₁ && c₂) ≡ c' → (d₁ && d₂) ≡ d' → e ≡ e' →
+    f ≡ f' →
+    (a && b && c₁ && c₂ && d₁ && d₂ && e && f) ≡ (a' && b' && c' && d' && e' && f')
+eight-six {a} {a'} {b} {b'} {c'} {d'} {e} {e'} {f} {f'} c₁ c₂ d₁ d₂ p q r s t u =
+    ap (λ x. x && d₁ && d₂ && e && f) (and_assoc (a && b) c₁ c₂)
+    ∙ ap (λ x. x && e && f) (and_assoc (a && b && (c₁ && c₂)) d₁ d₂)
+    ∙ six-same p q r s t u
 
 -- the first of five apart from the others
 pub five_or : (a b c d e : Bool) → (a || b || c || d || e) ≡ (a || (b || c || d || e))
 five_or true b c d e = refl
 five_or false b c d e = refl
 
--- the spaces' list is not as long as others just if one of its fields' is not
-pub prepared_alike :
-    (m a : ℕ) (ss : List code.Space) →
-    list_any (unlike m) (a ∷ length ss ∷ []) ≡ any (unlike m) (a ∷ space_rooms (lists ss))
+alone : (b : Bool) → elim b as (λ (x : Bool). Bool) [ true ↦ true | false ↦ false ] ≡ b
+alone true = refl
+alone false = refl
+
+-- two lists are as long as a third just if none of them is not
+pub both_alike : (n a b : ℕ) → (eqb n a && eqb n b) ≡ not (any (unlike n) (a ∷ b ∷ []))
 unfolding any
-prepared_alike m a ss =
-    list_any-is_any (unlike m) (a ∷ length ss ∷ []) ∙ by (unlike m a)
+both_alike n a b = by (eqb n a) (eqb n b)
+  where
+    by :
+        (x y : Bool) → (x && y)
+        ≡ not (elim (not x) as (λ (z : Bool). Bool) [
+          | true ↦ true
+          | false ↦ elim (not y) as (λ (z : Bool). Bool) [ true ↦ true | false ↦ false ]
+        ])
+    by true true = refl
+    by true false = refl
+    by false y = refl
+
+-- so too where one of them is a list of spaces, by its fields' lists
+pub prepared_alike :
+    (m a : ℕ) (ss : List code.Space) → (eqb m a && eqb m (length ss)) ≡ not (any (unlike m) (a ∷ space_rooms (lists ss)))
+unfolding any
+prepared_alike m a ss = both_alike m a (length ss) ∙ ap not (by (unlike m a))
   where
     rest : any (unlike m) (length ss ∷ []) ≡ any (unlike m) (space_rooms (lists ss))
-    rest =
-        sym (list_any-is_any (unlike m) (length ss ∷ []))
-        ∙ alone (unlike m (length ss))
-        ∙ sym (rooms_alike (unlike m) ss)
+    rest = alone (unlike m (length ss)) ∙ sym (rooms_alike (unlike m) ss)
 
     by :
         (b : Bool) → elim b as (λ (x : Bool). Bool) [ true ↦ true | false ↦ any (unlike m) (length ss ∷ []) ]

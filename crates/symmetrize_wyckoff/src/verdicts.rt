@@ -34,10 +34,7 @@ impl Lettering<'_> {
     pub(crate) fn given_verdict(&self) -> Verdict
         ensures { GivenJudged (letter_arguments_of self.now) result }
     {
-        if self.labelling.bad_counts() {
-            return Err(Refusal::Counts);
-        }
-        if self.bad_lists() {
+        if self.labelling.bad_counts() || self.bad_lists() {
             return Err(Refusal::Counts);
         }
         if self.bad_floats() {

@@ -1,7 +1,7 @@
 -- `given_verdict`: each return has tested what comes before it, whatever room is lent.
 use Prim.Native.Nat.{ℕ}
 use mathlib.Core.Path.{◌≡◌, refl, sym, ◌∙◌}
-use mathlib.Core.Bool.{Bool, ◌||◌}
+use mathlib.Core.Bool.{Bool, true, ◌||◌}
 use mathlib.Core.List.{List}
 use lib.ListN.{length}
 use Rattle.std.specs.Prelude.{Err}
@@ -15,6 +15,8 @@ use Rattle.symmetrize_wyckoff.specs.Given.{letter_arguments_of}
 use Rattle.symmetrize_wyckoff.specs.Lettering.{bad_lists}
 use Rattle.symmetrize_wyckoff.proofs.Given.{five_or}
 use Rattle.symmetrize_wyckoff.proofs.arguments.Lettering.given_verdict.Goals as goal
+use Rattle.symmetrize_wyckoff.proofs.arguments.Lettering.given_verdict.Goals.{then-bad_counts-via-then-bad_counts}
+use Rattle.symmetrize_wyckoff.proofs.arguments.Lettering.given_verdict.Goals.{then-bad_counts-via-else-bad_counts+then-bad_lists}
 use Rattle.symmetrize_wyckoff.proofs.arguments.Lettering.given_verdict.Goals.{Else-bad_floats, Else-bad_lists, Start}
 
 abbrev given : Start → LetterArguments
@@ -56,19 +58,15 @@ past₃ c rooms =
 
 pub returns-then-bad_counts : goal.returns-then-bad_counts
 unfolding verdict_of found_at_lem Passed HoldsAt
-returns-then-bad_counts c = λ rooms.
+returns-then-bad_counts c =
     let x = given (goal.at.returns-then-bad_counts c).Start in
-    refuse (letter_conditions x rooms) 0 tt
-    (so (counts_are x ∙ or_left (bad_lists x) (sym c.bad_counts.ensures ∙ c.if-bad_counts.true))) (Err Counts)
-    refl
-
-pub returns-then-bad_lists : goal.returns-then-bad_lists
-unfolding verdict_of found_at_lem Passed HoldsAt
-returns-then-bad_lists c = λ rooms.
-    let x = given (goal.at.returns-then-bad_lists c).Start in
-    refuse (letter_conditions x rooms) 0 tt
-    (so (counts_are x ∙ or_right (permutations x) (sym c.bad_lists.ensures ∙ c.if-bad_lists.true))) (Err Counts)
-    refl
+    let one : (permutations x || bad_lists x) ≡ true =
+    elim c.then-bad_counts.branch [
+      | then-bad_counts-via-then-bad_counts w ↦ or_left (bad_lists x) (sym c.bad_counts.ensures ∙ w.if-bad_counts.true)
+      | then-bad_counts-via-else-bad_counts+then-bad_lists w ↦
+          or_right (permutations x) (sym w.bad_lists.ensures ∙ w.if-bad_lists.true)
+    ] in
+    λ rooms. refuse (letter_conditions x rooms) 0 tt (so (counts_are x ∙ one)) (Err Counts) refl
 
 pub returns-then-bad_floats : goal.returns-then-bad_floats
 unfolding verdict_of found_at_lem HoldsAt
