@@ -154,8 +154,9 @@ fn put_identity(n: usize, out: &mut [u8])
     requires { (n ≤ 256) × (n ≤ length out.old) }
     ensures { out.new ≡ up_to n ++ drop n out.old }
 {
-    for i in 0..n {
-        out[i] = i as u8;
+    let front = &mut out[..n];
+    for (i, cell) in front.iter_mut().enumerate() {
+        *cell = i as u8;
     }
 }
 
