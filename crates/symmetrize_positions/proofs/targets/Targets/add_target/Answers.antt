@@ -6,6 +6,7 @@ use native.Mathlib.Omega.{arith}
 use lib.ListN.{length, get_or, length-set}
 use Rattle.definitions.specs.Permutation.{image, inverse_image, permutation_at}
 use Rattle.laws.specs.Lists.{part_of}
+use Rattle.math_real.specs.Rows.{real_is}
 use Rattle.symmetrize_positions.specs.Targets.{more}
 use Rattle.symmetrize_positions.proofs.Making.{Turns, permuted, make_step, make_end}
 use Rattle.symmetrize_positions.proofs.Sums.{more_is}
@@ -60,7 +61,7 @@ loop-j-preserved c =
     let m = c.real-m in
     let to = c.position_at-translation in
     let x =
-    more_is ps gs vs t.images.now c.args.k i l.j m.result to.result (get_or l.out i []) _ _ _ _ its m.ensures to.ensures
+    more_is ps gs vs t.images.now c.args.k i l.j m.result to.result (get_or l.out i []) _ _ _ _ its (real_is m.ensures) to.ensures
     c.position_at-q.ensures c.position_at.ensures c.displacement-d.ensures c.grown.ensures in (
       simp length-set l.invariant.0,
       make_step (length ps) (image p) (inverse_image p) o (more ps gs vs t.images.now c.args.k)
