@@ -64,11 +64,7 @@ fn less_times(x: i16, k: i32, y: i16) -> i64
 fn quotient(x: i16, y: i16) -> i32
     ensures { result ≡ quot_z x y }
 {
-    if y == 0 {
-        0
-    } else {
-        i32::from(x) / i32::from(y)
-    }
+    i32::from(x).checked_div(i32::from(y)).unwrap_or(0)
 }
 
 // ---- matrices
