@@ -60,11 +60,15 @@ fn less_times(x: i16, k: i32, y: i16) -> i64
     i64::from(x) - i64::from(k) * i64::from(y)
 }
 
-// cut toward 0; by 0 it is 0
+// Cut toward 0; by 0 it is 0. `checked_div` proves too, but tests for -1 as well: it took a fifth to two fifths longer.
 fn quotient(x: i16, y: i16) -> i32
     ensures { result ≡ quot_z x y }
 {
-    i32::from(x).checked_div(i32::from(y)).unwrap_or(0)
+    if y == 0 {
+        0
+    } else {
+        i32::from(x) / i32::from(y)
+    }
 }
 
 // ---- matrices
