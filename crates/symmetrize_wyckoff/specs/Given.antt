@@ -13,7 +13,7 @@ placed_of x =
       positions = x.positions.now;
       basis = x.basis;
       symprec = x.symprec;
-      candidates = x.candidates.now;
+      candidates = x.multiplicities.now;
       letters = x.letters.now;
       spaces = lists x.spaces.now;
     }

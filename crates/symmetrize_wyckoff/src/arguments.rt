@@ -10,7 +10,7 @@ pub struct Placed<'p, 'c, 's> {
     pub positions: &'p [Cells],
     pub basis: Basis,
     pub symprec: f64,
-    pub candidates: &'c [u16],
+    pub multiplicities: &'c [u16],
     pub letters: &'c [u8],
     pub spaces: &'s [Space],
 }

@@ -26,7 +26,7 @@ pub(crate) fn assignable(
     ensures { result ≡ assignable (assign_with (placed_of placed.now) labels.now multiplicities.now) room }
 {
     let n = labels.len();
-    let candidates = placed.candidates.len();
+    let candidates = placed.multiplicities.len();
     (n <= MOST_LISTED)
         & (candidates <= MOST_CANDIDATES)
         & (n == multiplicities.len())

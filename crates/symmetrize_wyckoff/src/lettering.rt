@@ -19,7 +19,8 @@ use lent::Zero;
 
 impl Placed<'_, '_, '_> {
     // 10 of the letters, 13, of the first n labels and multiplicities. The orbits are lent shared: behind an exclusive
-    // loan the borrow checker takes no parts of both lists at once.
+    // loan the borrow checker takes no parts of both lists at once. No method with the call that symmetrize_standardize
+    // makes: a public one asks for nothing, and what it promises past the lists' ends would be no plainer.
     fn letter_groups(&self, n: usize, orbits: &Orbits, letters: &mut [u8]) -> Verdict
         requires { (n ≤ length orbits.now.labels.now) × (n ≤ length orbits.now.multiplicities.now) }
         ensures { AssignJudged
@@ -72,7 +73,7 @@ impl Lettering<'_> {
             positions: self.positions,
             basis: self.basis,
             symprec: self.symprec,
-            candidates: self.multiplicities,
+            multiplicities: self.multiplicities,
             letters: self.letters,
             spaces,
         };

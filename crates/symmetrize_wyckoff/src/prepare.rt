@@ -36,7 +36,7 @@ pub(crate) const NO_CANDIDATE: Candidate = Candidate {
 // The table is the caller's: one that is returned is copied twice.
 pub(crate) fn put_candidates(placed: &Placed, out: &mut Prepared)
     requires { (length placed.now.spaces.now ≤ most_candidates)
-        × (length placed.now.candidates.now ≡ length placed.now.spaces.now)
+        × (length placed.now.multiplicities.now ≡ length placed.now.spaces.now)
         × (length placed.now.letters.now ≡ length placed.now.spaces.now) }
     ensures size { length out.new ≡ most_candidates }
     ensures candidates { PutCandidates (assign_with (placed_of placed.now) [] [])
@@ -44,7 +44,7 @@ pub(crate) fn put_candidates(placed: &Placed, out: &mut Prepared)
 {
     for (k, space) in placed.spaces.iter().enumerate() {
         out[k] = Candidate {
-            multiplicity: placed.candidates[k],
+            multiplicity: placed.multiplicities[k],
             letter: placed.letters[k],
             space: real_space(space),
         };

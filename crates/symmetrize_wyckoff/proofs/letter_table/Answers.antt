@@ -16,7 +16,7 @@ abbrev given : Start → AssignArguments
 given s = assign_with (placed_of s.args.placed.now) s.args.labels.now s.args.multiplicities.now
 
 -- a space a candidate
-counted : (s : Start) → length s.args.placed.now.spaces.now ≡ length s.args.placed.now.candidates.now
+counted : (s : Start) → length s.args.placed.now.spaces.now ≡ length s.args.placed.now.multiplicities.now
 counted s = sym (length-map s.args.placed.now.spaces.now (λ t. t.matrix)) ∙ s.requires.matrices
 
 pub put_candidates-requires : goal.put_candidates-requires

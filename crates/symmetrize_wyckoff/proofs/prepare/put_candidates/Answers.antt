@@ -45,7 +45,7 @@ loop-k-preserved c =
     let p = c.args.placed.now in
     let choice = choice_at (assign_with (placed_of p) [] []) in
     let new : Candidate = record
-    { multiplicity = get_or p.candidates.now l.k 0; letter = get_or p.letters.now l.k 0; space = v.result } in
+    { multiplicity = get_or p.multiplicities.now l.k 0; letter = get_or p.letters.now l.k 0; space = v.result } in
     let out = set l.out l.k new in
     let e = space_at p.spaces.now l.k c.loop-k-test.true in
     let other = λ (i : ℕ) (b : i < l.k). get_or-set_other l.out l.k i new no_candidate (λ q. omega arith) in
@@ -54,7 +54,7 @@ loop-k-preserved c =
       below_more (λ i. (get_or out i no_candidate ≡ real_candidate (choice i)) × CountedDiagonal (choice i).space.snf.d) l.k
           (λ i b. (other i b ∙ (l.invariant.1 i b).0, (l.invariant.1 i b).1)) (
             same ∙ ap (λ s. record
-                { multiplicity = get_or p.candidates.now l.k 0; letter = get_or p.letters.now l.k 0; space = s })
+                { multiplicity = get_or p.multiplicities.now l.k 0; letter = get_or p.letters.now l.k 0; space = s })
                 (v.ensures.0 ∙ ap real_space (sym e)),
             subst (λ s. CountedDiagonal s.snf.d) (sym e) v.ensures.1,
           ),
