@@ -5,7 +5,7 @@ ghost use Rattle.symmetrize_match.specs.Match.{IsBound, first_near};
 use definitions::Fit;
 use math_sqrt::sqrt;
 
-// symprec with a bound for its squares, which serves every position and candidate.
+// symprec with a bound for its squares: one a match, for all of its offsets.
 #[derive(Clone, Copy)]
 pub(crate) struct Tolerance {
     pub(crate) symprec: f64,

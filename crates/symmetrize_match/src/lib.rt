@@ -71,15 +71,19 @@ fn diagonal_of(d: SnfMatrix) -> Position
 }
 
 // A prepared candidate's whole numbers as floats.
-pub fn real_space(space: &Space) -> RealSpace
-    ensures { (result ≡ real_space (space_of space.now)) × CountedDiagonal space.now.d }
-{
-    RealSpace {
-        matrix: whole::real(space.matrix),
-        shift: Position::from(space.shift),
-        diagonal: diagonal_of(space.d),
-        left: whole::real(space.l),
-        right: whole::real(space.r),
+impl From<&Space> for RealSpace {
+    ghost from_gives = { λ space r. (r ≡ real_space (space_of space.now)) × CountedDiagonal space.now.d };
+
+    fn from(space: &Space) -> RealSpace
+        ensures { (result ≡ real_space (space_of space.now)) × CountedDiagonal space.now.d }
+    {
+        RealSpace {
+            matrix: whole::real(space.matrix),
+            shift: Position::from(space.shift),
+            diagonal: diagonal_of(space.d),
+            left: whole::real(space.l),
+            right: whole::real(space.r),
+        }
     }
 }
 
@@ -96,6 +100,6 @@ pub fn match_coordinates(
         return Err(Refusal::FloatRange);
     }
     let given = prepare(text)?;
-    let space = real_space(&given);
+    let space = RealSpace::from(&given);
     Ok(match_prepared(basis, symprec, &space, position))
 }

@@ -1,7 +1,7 @@
 // The search for a position's letter: the candidates of its orbit's multiplicity, in list order.
 ghost use Rattle.std.specs.Prelude.{◌≡◌, option_map};
 ghost use Rattle.std.specs.List.{find};
-ghost use Rattle.symmetrize_wyckoff.specs.Prepared.{fits_real, found, found_real};
+ghost use Rattle.symmetrize_wyckoff.specs.Prepared.{fits_real};
 
 use definitions::{Basis, Position};
 use symmetrize_match::{RealSpace, match_prepared};

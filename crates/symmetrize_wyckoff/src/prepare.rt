@@ -9,7 +9,7 @@ use crate::arguments::Placed;
 use crate::find::Candidate;
 use definitions::Position;
 use definitions::limits::MOST_CANDIDATES;
-use symmetrize_match::{RealSpace, real_space};
+use symmetrize_match::RealSpace;
 
 // One a candidate.
 pub(crate) type Prepared = [Candidate; MOST_CANDIDATES];
@@ -20,7 +20,7 @@ const ORIGIN: Position = Position {
     z: 0.0,
 };
 
-// What the table holds behind the candidates.
+// What the table holds behind the candidates. No `Zero`: its law would name values that no proof asks for.
 pub(crate) const NO_CANDIDATE: Candidate = Candidate {
     multiplicity: 0,
     letter: 0,
@@ -46,7 +46,7 @@ pub(crate) fn put_candidates(placed: &Placed, out: &mut Prepared)
         out[k] = Candidate {
             multiplicity: placed.multiplicities[k],
             letter: placed.letters[k],
-            space: real_space(space),
+            space: RealSpace::from(space),
         };
     }
 }

@@ -28,7 +28,7 @@ pub returns : goal.returns
 returns c =
     let a = c.args in
     let s = space_of c.in_ok-given.given in
-    let made = c.real_space-space.ensures in
+    let made = c.from-space.ensures in
     answered a.basis a.position a.text.now a.symprec (good (goal.at.returns c).Else-bad_floats) s
     c.in_ok-given.ensures.prepared c.match_prepared.result
     (c.match_prepared.ensures

@@ -41,7 +41,7 @@ space_at ss k h = λ i. space_of (record {
 pub loop-k-preserved : goal.loop-k-preserved
 loop-k-preserved c =
     let l = c.loop-k in
-    let v = c.real_space in
+    let v = c.from in
     let p = c.args.placed.now in
     let choice = choice_at (assign_with (placed_of p) [] []) in
     let new : Candidate = record
