@@ -38,6 +38,7 @@ fn put_multiplicities(labels: &[u16], counts: &Counts, out: &mut [u16])
     ensures { out.new
         ≡ multiplicities_of labels.now ++ drop (length labels.now) out.old }
 {
+    // over the labels and not over the cells of `out`: an index either way
     for (j, label) in labels.iter().enumerate() {
         out[j] = counts[usize::from(*label)];
     }

@@ -28,6 +28,7 @@ impl SiteForest {
         ensures { result.parent ≡ up_to most_sites }
     {
         let mut parent = [0u8; MOST_SITES];
+        // no `iter_mut`: what the loop keeps of a table cannot be said while the table is lent
         for i in 0..MOST_SITES {
             parent[i] = i as u8;
         }
@@ -88,6 +89,7 @@ impl SiteForest {
             self.old.parent self.new.parent }
     {
         let n = x.labelling.sites;
+        // no `chunks_exact`, which takes no length 0: there may be no sites
         for o in 0..x.labelling.count {
             let at = o * n;
             self.join_images(&x.labelling.images[at..at + n]);

@@ -81,6 +81,7 @@ pub fn all_permutations(images: &[u8], n: usize, k: usize) -> bool
     if images.len() / n < k {
         return false;
     }
+    // `images.chunks_exact(n).take(k).all(..)`: tried, and the proof by the runs of three iterators did not close
     for o in 0..k {
         let at = o * n;
         if !is_permutation(&images[at..at + n]) {
@@ -178,6 +179,7 @@ fn put_product(p: &[u8], q: &[u8], out: &mut [u8])
     ensures { out.new ≡
         after p.now q.now ++ drop (length q.now) out.old }
 {
+    // over q and not over the cells of `out`: an index either way
     for (i, image) in q.iter().enumerate() {
         out[i] = p[usize::from(*image)];
     }

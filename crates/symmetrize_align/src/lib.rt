@@ -22,7 +22,8 @@ pub struct Operations<'a> {
     pub sites: usize,
 }
 
-// What the call is given: the change T to the selected primitive basis, the operations, and the rotations of the targets.
+// What the call is given: the change T to the selected primitive basis, the operations, and the rotations of the
+// targets.
 #[derive(Clone, Copy)]
 pub struct GivenAlignment<'o, 't> {
     pub t: Linear,

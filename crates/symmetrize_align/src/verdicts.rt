@@ -27,9 +27,7 @@ impl GivenAlignment<'_, '_> {
         ensures { result ≡ (not (in_range self.now.t) || not (all in_range self.now.operations.rotations.now)
             || not (all in_range self.now.targets.now)) }
     {
-        !in_range(self.t)
-            || !all_in_range(self.operations.rotations)
-            || !all_in_range(self.targets)
+        !in_range(self.t) || !all_in_range(self.operations.rotations) || !all_in_range(self.targets)
     }
 
     // 5

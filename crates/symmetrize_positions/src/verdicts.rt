@@ -48,7 +48,11 @@ impl GivenPositions<'_, '_> {
             self.now.targets.images.now }
     {
         let targets = self.targets;
-        !all_permutations(targets.images, self.positions.len(), targets.rotations.len())
+        !all_permutations(
+            targets.images,
+            self.positions.len(),
+            targets.rotations.len(),
+        )
     }
 
     // 2, 3, 4, 5, 7, 10

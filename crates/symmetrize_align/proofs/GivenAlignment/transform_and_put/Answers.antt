@@ -5,4 +5,5 @@ use Rattle.symmetrize_align.proofs.GivenAlignment.transform_and_put.Goals as goa
 pub returns : goal.returns
 returns c =
     let g = c.args.self.now in
-    aligned_by_lem g _ (lent_is g.t g.operations.rotations.now _ _ c.put_transformed.ensures) _ _ _ c.put_aligned.ensures
+    aligned_by_lem g _ (lent_is g.t g.operations.rotations.now _ _ c.put_transformed.ensures) _ _ _
+    c.put_aligned.ensures

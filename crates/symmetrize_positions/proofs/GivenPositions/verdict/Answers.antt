@@ -10,7 +10,8 @@ use Rattle.laws.specs.Verdicts.{HoldsAt, Passed, pass, found_at_lem, found_none,
 use Rattle.laws.specs.Tests.{so, not_so}
 use Rattle.symmetrize_positions.specs.Given.{conditions}
 use Rattle.symmetrize_positions.proofs.GivenPositions.verdict.Goals as goal
-use Rattle.symmetrize_positions.proofs.GivenPositions.verdict.Goals.{Else-bad_counts, Else-bad_entries, Else-bad_floats, Else-bad_images, Else-not-unimodular, Start}
+use Rattle.symmetrize_positions.proofs.GivenPositions.verdict.Goals.{Else-bad_counts, Else-bad_entries}
+use Rattle.symmetrize_positions.proofs.GivenPositions.verdict.Goals.{Else-bad_floats, Else-bad_images, Else-not-unimodular, Start}
 
 abbrev its : Start → List Condition
 its s = conditions s.args.self.now s.args.room
