@@ -4,7 +4,6 @@ pub mod Fixed
 pub mod Runs
 pub mod Whole
 pub mod Words
-pub mod Decisions
 pub mod CountedRun
 pub mod Jobs
 pub mod Rooms

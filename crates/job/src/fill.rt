@@ -9,6 +9,7 @@ ghost use Rattle.job.specs.Given.{given_in, SameJob, rooms_of, Enough, given_at}
 ghost use Rattle.job.specs.Words.{float_at};
 
 use crate::JobLists;
+use crate::layout::{CANDIDATE, IMAGE, OPENING, OPERATION, ROTATION, SITE};
 use crate::lists::put_items;
 use crate::operands::Operand;
 use definitions::{Basis, Cells, JobCounts, Linear, Rotation, Text};
@@ -20,8 +21,8 @@ fn fill_sites(bytes: &[u8], n: usize, elements: &mut [i32], positions: &mut [Cel
         × Holds zero_cells positions.old positions.new
         (items (cells_from bytes.now) 29 122 n) }
 {
-    put_items(bytes, 118, 29, n, elements);
-    put_items(bytes, 122, 29, n, positions);
+    put_items(bytes, OPENING + 1, SITE, n, elements);
+    put_items(bytes, OPENING + 5, SITE, n, positions);
 }
 
 // O or G
@@ -39,8 +40,8 @@ fn fill_operations(
         × Holds zero_cells translations.old translations.new
         (items (cells_from bytes.now) 34 (at + 10) n) }
 {
-    put_items(bytes, at + 1, 34, n, rotations);
-    put_items(bytes, at + 10, 34, n, translations);
+    put_items(bytes, at + 1, OPERATION, n, rotations);
+    put_items(bytes, at + 10, OPERATION, n, translations);
 }
 
 // P
@@ -48,7 +49,7 @@ fn fill_images(bytes: &[u8], at: usize, n: usize, images: &mut [u8])
     requires { (at + n * 2 + 10 ≤ length bytes.now) × (n ≤ length images.old) }
     ensures { Holds 0 images.old images.new (items (word_at 1 bytes.now) 2 (at + 1) n) }
 {
-    put_items(bytes, at + 1, 2, n, images);
+    put_items(bytes, at + 1, IMAGE, n, images);
 }
 
 // R
@@ -57,7 +58,7 @@ fn fill_conventional(bytes: &[u8], at: usize, n: usize, conventional: &mut [Rota
     ensures { Holds zero_matrix conventional.old conventional.new
         (items (matrix_from bytes.now) 10 (at + 1) n) }
 {
-    put_items(bytes, at + 1, 10, n, conventional);
+    put_items(bytes, at + 1, ROTATION, n, conventional);
 }
 
 // W: how often a site of the candidate stands in a cell, and its letter
@@ -74,8 +75,8 @@ fn fill_candidates(
         × Holds 0 letters.old letters.new
         (items (word_at 1 bytes.now) 68 (at + 3) n) }
 {
-    put_items(bytes, at + 1, 68, n, multiplicities);
-    put_items(bytes, at + 3, 68, n, letters);
+    put_items(bytes, at + 1, CANDIDATE, n, multiplicities);
+    put_items(bytes, at + 3, CANDIDATE, n, letters);
 }
 
 // .. and its coordinates
@@ -83,7 +84,7 @@ fn fill_texts(bytes: &[u8], at: usize, n: usize, texts: &mut [Text])
     requires { (at + n * 68 + 10 ≤ length bytes.now) × (n ≤ length texts.old) }
     ensures { Holds zero_text texts.old texts.new (items (text_at bytes.now) 68 (at + 4) n) }
 {
-    put_items(bytes, at + 4, 68, n, texts);
+    put_items(bytes, at + 4, CANDIDATE, n, texts);
 }
 
 impl JobLists<'_> {
@@ -93,12 +94,12 @@ impl JobLists<'_> {
         ensures filled { HoldsGiven (given_in self.old) (given_in self.new) (given_at bytes.now k) }
         ensures same_lists { SameJob self.old self.new }
     {
-        let operations_from = 117 + k.sites * 29;
-        let images_from = operations_from + k.operations * 34;
-        let targets_from = images_from + k.images * 2;
-        let rotations_from = targets_from + k.targets * 34;
-        let candidates_from = rotations_from + k.rotations * 10;
-        let symprec_from = candidates_from + k.candidates * 68;
+        let operations_from = OPENING + k.sites * SITE;
+        let images_from = operations_from + k.operations * OPERATION;
+        let targets_from = images_from + k.images * IMAGE;
+        let rotations_from = targets_from + k.targets * OPERATION;
+        let candidates_from = rotations_from + k.rotations * ROTATION;
+        let symprec_from = candidates_from + k.candidates * CANDIDATE;
         self.lattice = Basis::read(bytes, 1);
         self.t = Linear::read(bytes, 74);
         self.shift = Cells::read(bytes, 83);

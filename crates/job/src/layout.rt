@@ -8,6 +8,19 @@ ghost use Rattle.job.specs.Given.{takes_up};
 use definitions::limits::MOST_BYTES;
 use definitions::{JobCounts, Refusal};
 
+// L, T and C, which stand first
+pub(crate) const OPENING: usize = 117;
+// S
+pub(crate) const SITE: usize = 29;
+// O and G
+pub(crate) const OPERATION: usize = 34;
+// P
+pub(crate) const IMAGE: usize = 2;
+// R
+pub(crate) const ROTATION: usize = 10;
+// W
+pub(crate) const CANDIDATE: usize = 68;
+
 // How many commands of one kind stand one behind the other from a place on; one that is cut is not counted.
 fn count_run(bytes: &[u8], at: usize, command: u8, width: usize) -> usize
     requires { (at ≤ length bytes.now) × (1 ≤ width) }
@@ -27,17 +40,17 @@ fn layout(bytes: &[u8]) -> JobCounts
     requires { 117 ≤ length bytes.now }
     ensures { Layout bytes.now result }
 {
-    let sites = count_run(bytes, 117, b'S', 29);
-    let operations_from = 117 + sites * 29;
-    let operations = count_run(bytes, operations_from, b'O', 34);
-    let images_from = operations_from + operations * 34;
-    let images = count_run(bytes, images_from, b'P', 2);
-    let targets_from = images_from + images * 2;
-    let targets = count_run(bytes, targets_from, b'G', 34);
-    let rotations_from = targets_from + targets * 34;
-    let rotations = count_run(bytes, rotations_from, b'R', 10);
-    let candidates_from = rotations_from + rotations * 10;
-    let candidates = count_run(bytes, candidates_from, b'W', 68);
+    let sites = count_run(bytes, OPENING, b'S', SITE);
+    let operations_from = OPENING + sites * SITE;
+    let operations = count_run(bytes, operations_from, b'O', OPERATION);
+    let images_from = operations_from + operations * OPERATION;
+    let images = count_run(bytes, images_from, b'P', IMAGE);
+    let targets_from = images_from + images * IMAGE;
+    let targets = count_run(bytes, targets_from, b'G', OPERATION);
+    let rotations_from = targets_from + targets * OPERATION;
+    let rotations = count_run(bytes, rotations_from, b'R', ROTATION);
+    let candidates_from = rotations_from + rotations * ROTATION;
+    let candidates = count_run(bytes, candidates_from, b'W', CANDIDATE);
     JobCounts {
         sites,
         operations,
@@ -53,27 +66,15 @@ pub(crate) fn symprec_from(k: JobCounts) -> usize
     requires { symprec_from k < 18446744073709551616 }
     ensures { result ≡ symprec_from k }
 {
-    let runs = 117 + k.sites * 29 + k.operations * 34 + k.images * 2;
-    runs + k.targets * 34 + k.rotations * 10 + k.candidates * 68
+    let runs = OPENING + k.sites * SITE + k.operations * OPERATION + k.images * IMAGE;
+    runs + k.targets * OPERATION + k.rotations * ROTATION + k.candidates * CANDIDATE
 }
 
 // Whether L, T and C stand first.
 fn opens(bytes: &[u8]) -> bool
     ensures { Decided (Opens bytes.now) result }
 {
-    if bytes.len() < 117 {
-        return false;
-    }
-    if bytes[0] != b'L' {
-        return false;
-    }
-    if bytes[73] != b'T' {
-        return false;
-    }
-    if bytes[107] != b'C' {
-        return false;
-    }
-    true
+    OPENING <= bytes.len() && bytes[0] == b'L' && bytes[73] == b'T' && bytes[107] == b'C'
 }
 
 // Whether N and Z stand last.
@@ -81,16 +82,7 @@ fn closes(bytes: &[u8], at: usize) -> bool
     requires { at ≤ length bytes.now }
     ensures { Decided (Closes bytes.now at) result }
 {
-    if bytes.len() - at != 10 {
-        return false;
-    }
-    if bytes[at] != b'N' {
-        return false;
-    }
-    if bytes[at + 9] != b'Z' {
-        return false;
-    }
-    true
+    bytes.len() - at == 10 && bytes[at] == b'N' && bytes[at + 9] == b'Z'
 }
 
 // Whether there are more of a command than a limit says.
