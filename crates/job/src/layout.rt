@@ -27,12 +27,8 @@ fn count_run(bytes: &[u8], at: usize, command: u8, width: usize) -> usize
     ensures { Run command width bytes.now at result }
 {
     let whole = (bytes.len() - at) / width;
-    for n in 0..whole {
-        if bytes[at + n * width] != command {
-            return n;
-        }
-    }
-    whole
+    let other = (0..whole).find(|n| bytes[at + *n * width] != command);
+    other.unwrap_or(whole)
 }
 
 // The six runs behind L, T and C.
