@@ -2,6 +2,7 @@
 use Rattle.std.proofs.Common.{ap, ◌∙◌}
 use Rattle.definitions.specs.Real.{mul_f}
 use Rattle.laws.specs.Verdicts.{passed_on}
+use Rattle.math_real.specs.Rows.{real_is}
 use Rattle.symmetrize_lattice.proofs.Laws.{Promised, bases_accepted, bases_refused}
 use Rattle.symmetrize_lattice.proofs.symmetrize_lattice.Goals as goal
 
@@ -18,4 +19,4 @@ returns c =
     let p = c.product-primitive.result in
     bases_accepted c.args.given.now m p c.product-listed.result c.in_ok-conventional.ensures
     (c.product-primitive.ensures ∙ ap (mul_f m) c.inverse_of_c.ensures)
-    (c.product-listed.ensures ∙ ap (mul_f p) c.real.ensures)
+    (c.product-listed.ensures ∙ ap (mul_f p) (real_is c.real.ensures))
