@@ -32,8 +32,8 @@ six-same p q r s t u = λ i. p i && q i && r i && s i && t i && u i
 
 -- eight tests, two and two of them each as one
 pub eight-six :
-    {a a' b b' c' d' e e' f f' : Bool} (c₁ c₂ d₁ d₂ : Bool) → a ≡ a' → b ≡ b' → (c₁ && c₂) ≡ c' → (d₁ && d₂) ≡ d' → e ≡ e' →
-    f ≡ f' →
+    {a a' b b' c' d' e e' f f' : Bool} (c₁ c₂ d₁ d₂ : Bool) → a ≡ a' → b ≡ b' → (c₁ && c₂) ≡ c' → (d₁ && d₂) ≡ d' →
+    e ≡ e' → f ≡ f' →
     (a && b && c₁ && c₂ && d₁ && d₂ && e && f) ≡ (a' && b' && c' && d' && e' && f')
 eight-six {a} {a'} {b} {b'} {c'} {d'} {e} {e'} {f} {f'} c₁ c₂ d₁ d₂ p q r s t u =
     ap (λ x. x && d₁ && d₂ && e && f) (and_assoc (a && b) c₁ c₂)
@@ -66,7 +66,8 @@ both_alike n a b = by (eqb n a) (eqb n b)
 
 -- so too where one of them is a list of spaces, by its fields' lists
 pub prepared_alike :
-    (m a : ℕ) (ss : List code.Space) → (eqb m a && eqb m (length ss)) ≡ not (any (unlike m) (a ∷ space_rooms (lists ss)))
+    (m a : ℕ) (ss : List code.Space) →
+    (eqb m a && eqb m (length ss)) ≡ not (any (unlike m) (a ∷ space_rooms (lists ss)))
 unfolding any
 prepared_alike m a ss = both_alike m a (length ss) ∙ ap not (by (unlike m a))
   where

@@ -36,7 +36,8 @@ module _ (basis : RealMatrix) (symprec : Float) (m : ℕ) (p : Position) (c : Ca
   other_count ne = rw (ne_eqb c.multiplicity m ne)
 
   pub same_count :
-      (r : Bool) → c.multiplicity ≡ m → r ≡ is_some (match_real basis symprec c.space p) → r ≡ fits_real basis symprec m p c
+      (r : Bool) → c.multiplicity ≡ m → r ≡ is_some (match_real basis symprec c.space p) →
+      r ≡ fits_real basis symprec m p c
   unfolding fits_real
   same_count r e h = rw (eq-eqb c.multiplicity m e) h
 

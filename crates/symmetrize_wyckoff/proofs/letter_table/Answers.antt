@@ -33,7 +33,8 @@ returns c =
     let x = given s in
     let n = length s.args.placed.now.spaces.now in
     let out = c.put_candidates.new.out in
-    let long : length (take n out) ≡ length x.candidates = length-take n out ∙ omega (arith, counted s, c.requires.few, c.put_candidates.ensures.size) in
+    let long : length (take n out) ≡ length x.candidates =
+    length-take n out ∙ omega (arith, counted s, c.requires.few, c.put_candidates.ensures.size) in
     let put : PutCandidates x (length x.candidates) (take n out) = λ k h.
     subst (λ a. (a ≡ real_candidate (choice_at x k)) × CountedDiagonal (choice_at x k).space.snf.d)
     (sym (get_or-take n out k no_candidate (omega (arith, counted s))))

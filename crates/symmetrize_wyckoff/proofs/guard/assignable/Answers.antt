@@ -12,6 +12,7 @@ returns c =
     let n = length a.labels.now in
     let p = a.placed.now in
     let m = length p.multiplicities.now in
-    eight-six _ _ _ _ (at_most n 1024) (at_most m 64) (both_alike n (length a.multiplicities.now) (length p.positions.now))
+    eight-six _ _ _ _ (at_most n 1024) (at_most m 64)
+    (both_alike n (length a.multiplicities.now) (length p.positions.now))
     (prepared_alike m (length p.letters.now) p.spaces.now) (at_most n a.room)
     (c.labels_listed.ensures ∙ list_all-is_all (λ l. ltb l n) a.labels.now)

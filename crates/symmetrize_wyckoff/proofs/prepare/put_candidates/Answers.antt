@@ -51,7 +51,8 @@ loop-k-preserved c =
     let other = λ (i : ℕ) (b : i < l.k). get_or-set_other l.out l.k i new no_candidate (λ q. omega arith) in
     let same = get_or-set_same l.out l.k new no_candidate (omega (arith, l.invariant.0)) in (
       simp length-set l.invariant.0,
-      below_more (λ i. (get_or out i no_candidate ≡ real_candidate (choice i)) × CountedDiagonal (choice i).space.snf.d) l.k
+      below_more (λ i. (get_or out i no_candidate ≡ real_candidate (choice i)) × CountedDiagonal (choice i).space.snf.d)
+          l.k
           (λ i b. (other i b ∙ (l.invariant.1 i b).0, (l.invariant.1 i b).1)) (
             same ∙ ap (λ s. record
                 { multiplicity = get_or p.multiplicities.now l.k 0; letter = get_or p.letters.now l.k 0; space = s })

@@ -9,7 +9,8 @@ pub returns-then-candidate-multiplicity : goal.returns-then-candidate-multiplici
 returns-then-candidate-multiplicity c =
     let a = c.args in
     let s = a.self.now in
-    same_count s.basis s.symprec a.multiplicity a.position a.candidate.now c.is_some.result c.if-candidate-multiplicity.true
+    same_count s.basis s.symprec a.multiplicity a.position a.candidate.now c.is_some.result
+    c.if-candidate-multiplicity.true
     (c.is_some.ensures ∙ ap is_some c.match_prepared.ensures)
 
 pub returns-else-candidate-multiplicity : goal.returns-else-candidate-multiplicity
