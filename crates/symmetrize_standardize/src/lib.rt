@@ -149,7 +149,7 @@ fn letter(
         positions: &listing.positions[..work.listed],
         basis: work.basis,
         symprec: work.symprec,
-        candidates: work.multiplicities,
+        multiplicities: work.multiplicities,
         letters: work.letters,
         spaces,
     };
