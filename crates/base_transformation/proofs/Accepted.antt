@@ -64,7 +64,7 @@ ready_of c room f h s e = subst (λ (t : State). Ready t.d room) e.1 run
     run =
         let (x, y, z) = f in
         let n = product e.0 h in
-        record { some = omega arith; few = omega arith; fits = omega arith }
+        record { few = omega arith; fits = omega arith }
 
 pub ready :
     (c : Matrix) (room : ℕ) → Checked (points_conditions c room) (Ok tt) → Three c → (s : State) → IsSnf c s → Ready s.d room

@@ -27,14 +27,13 @@ less_by zero n h = absurd (omega arith)
 less_by (suc a) n h = omega arith
 
 -- factors of a product that is not 0
-pub factors : (a b c k : ℕ) → k < a * b * c → (0 < b) × (0 < c) × (a * b ≤ a * b * c) × (b * c ≤ a * b * c)
+pub factors : (a b c k : ℕ) → k < a * b * c → (0 < b) × (0 < c) × (b * c ≤ a * b * c)
 factors a b c k h =
     let v : k < a * c * b = omega arith in
     let w : k < b * c * a = omega arith in
     let z = positive a b c k h in (
       positive a c b k v,
       z,
-      omega (arith, less_by c (a * b) z),
       omega (arith, less_by a (b * c) (positive b c a k w)),
     )
 
@@ -45,12 +44,12 @@ points-lent c s entry exit e f =
     (e.0, f ∙ ap (λ (t : State). padded zero_point (points t) (length entry)) (sym e.1))
 
 module _ (s : State) (a b c : ℕ) (x : a ≡ nat_abs (at s.d 0 0)) (y : b ≡ nat_abs (at s.d 1 1)) (z : c ≡ nat_abs (at s.d 2 2)) (entry : List (List ℤ)) (ready : Ready s.d (length entry)) where
-  pub listed_facts : (0 < a * b * c) × (a * b * c ≤ 64) × (a * b * c ≤ length entry)
-  listed_facts = rw (x, y, z) (ready.some, ready.few, ready.fits)
+  pub listed_facts : (a * b * c ≤ 64) × (a * b * c ≤ length entry)
+  listed_facts = rw (x, y, z) (ready.few, ready.fits)
 
-  pub listed : (m : Matrix) (n : ℕ) (mid exit : List (List ℤ)) → m ≡ inverse s.l → n ≡ a * b * c
-      → mid ≡ map (apply m) (box a b c) ++ drop (a * b * c) entry → exit ≡ cut zero_point n mid → exit ≡ padded zero_point (points s) (length entry)
+  pub listed : (m : Matrix) (mid exit : List (List ℤ)) → m ≡ inverse s.l
+      → mid ≡ map (apply m) (box a b c) ++ drop (a * b * c) entry → exit ≡ cut zero_point (a * b * c) mid → exit ≡ padded zero_point (points s) (length entry)
   unfolding points
-  listed m n mid exit g e p q =
-      padded_by zero_point (map (apply m) (box a b c)) entry exit mid (a * b * c) (box-points m a b c) listed_facts.2 p (q ∙ ap (λ (k : ℕ). cut zero_point k mid) e)
+  listed m mid exit g p q =
+      padded_by zero_point (map (apply m) (box a b c)) entry exit mid (a * b * c) (box-points m a b c) listed_facts.1 p q
       ∙ ap (λ (ps : List (List ℤ)). padded zero_point ps (length entry)) (λ i. map (apply (g i)) (box (x i) (y i) (z i)))

@@ -50,18 +50,20 @@ fn digits(k: usize, b: usize, c: usize) -> [i16; 3]
     [(k / (b * c)) as i16, (k / c % b) as i16, (k % c) as i16]
 }
 
-// how many there are
-fn put_points(m: Cofactors, a: usize, b: usize, c: usize, out: &mut [Point]) -> usize
-    requires { (0 < a * b * c) × (a * b * c ≤ 64) × (a * b * c ≤ length out.old) }
-    ensures { (result ≡ a * b * c)
-        × (out.new ≡ map (apply_of m) (box a b c) ++ drop (a * b * c) out.old) }
+// the image of each vector
+fn put_points(m: Cofactors, a: usize, b: usize, c: usize, out: &mut [Point])
+    requires { (length out.old ≡ a * b * c) × (a * b * c ≤ 64) }
+    ensures { out.new ≡ map (apply_of m) (box a b c) }
 {
-    let n = a * b * c;
-    for k in 0..n {
-        let f = digits(k, b, c);
-        out[k] = apply(m, f);
+    for (k, x) in out.iter_mut().enumerate() {
+        *x = apply(m, digits(k, b, c));
     }
-    n
+}
+
+fn diagonal(d: SnfMatrix) -> [i16; 3]
+    ensures { result ≡ diagonal_of d }
+{
+    [d[0][0], d[1][1], d[2][2]]
 }
 
 // the points, of D and L, and zero behind them
@@ -69,11 +71,9 @@ pub(crate) fn list_points(form: SmithForm, out: &mut [Point])
     requires { Ready form.d (length out.old) }
     ensures { out.new ≡ padded zero_point (points (state_of form)) (length out.old) }
 {
-    let m = inverse(form.l);
-    let a = usize::from(form.d[0][0].unsigned_abs());
-    let b = usize::from(form.d[1][1].unsigned_abs());
-    let c = usize::from(form.d[2][2].unsigned_abs());
-    let n = put_points(m, a, b, c, out);
+    let [a, b, c] = diagonal(form.d).map(|e| usize::from(e.unsigned_abs()));
+    let n = a * b * c;
+    put_points(inverse(form.l), a, b, c, &mut out[..n]);
     clear(out, n);
 }
 
@@ -120,12 +120,6 @@ pub fn lattice_points(c: Linear, out: &mut [Point]) -> Verdict
 }
 
 // ---- the invariant factors
-
-fn diagonal(d: SnfMatrix) -> [i16; 3]
-    ensures { result ≡ diagonal_of d }
-{
-    [d[0][0], d[1][1], d[2][2]]
-}
 
 // The diagonal of D, of C. There is room for any number of copies, so that 10 does not apply.
 pub fn invariant_factors(c: Linear) -> Result<[i16; 3], Refusal>

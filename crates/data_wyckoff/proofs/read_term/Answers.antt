@@ -55,7 +55,8 @@ loop-i-preserved c =
           )
     ]
 
-module _ (text : List ℕ) (i : ℕ) (t : Partial) (over : length text ≤ i) (unread : length text < i → t ≡ empty_at Nothing) where
+module _ (text : List ℕ) (i : ℕ) (t : Partial) (over : length text ≤ i)
+    (unread : length text < i → t ≡ empty_at Nothing) where
   -- past the end no item was read
   any_end : end_of t (length text) ≡ end_of t i
   any_end = ⊎_elim (λ h. ap (end_of t) h) (λ h. rw (unread h)) (eq-or-lt_of_le over)
