@@ -12,7 +12,9 @@ ghost use Rattle.job_standardize.specs.Counted.{Legal};
 ghost use Rattle.job_standardize.specs.Rooms.{JustRoom};
 
 use definitions::limits::{MOST_CANDIDATES, MOST_IMAGES, MOST_OPERATIONS, MOST_SITES};
-use definitions::{AnswerCounts, Basis, Cells, JobCounts, Linear, Position, Refusal, Rotation, Text};
+use definitions::{
+    AnswerCounts, Basis, Cells, JobCounts, Linear, Position, Refusal, Rotation, Text,
+};
 use job::layout::{counted, more_than};
 use job::{JobLists, read_counted};
 use lent::Zero;

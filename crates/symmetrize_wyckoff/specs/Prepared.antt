@@ -128,7 +128,7 @@ module _ (x : AssignArguments) (cs : List Candidate) (long : length cs ≡ lengt
       let b : k < n = omega (arith, long) in
       (put k b).0
       ∙ sym (map_at real_at (up_to n) k 0 no_candidate (omega (arith, length-up_from 0 n))
-          ∙ ap real_at (up_to_at n k b)))
+      ∙ ap real_at (up_to_at n k b)))
 
   fits_prepared :
       (m : ℕ) (p : Position) (k : ℕ) → k < n →

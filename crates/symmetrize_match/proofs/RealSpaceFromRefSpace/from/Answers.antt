@@ -3,9 +3,8 @@ use Rattle.math_real.specs.Rows.{real_is}
 use Rattle.symmetrize_match.proofs.RealSpaceFromRefSpace.from.Goals as goal
 
 pub returns : goal.returns
-returns c =
-    (
-      λ i.
+returns c = (
+  λ i.
       record {
         matrix = real_is c.real.ensures i;
         shift = c.from.ensures i;
@@ -13,5 +12,5 @@ returns c =
         left = real_is c.real-2.ensures i;
         right = real_is c.real-3.ensures i;
       },
-      c.diagonal_of.ensures.1,
-    )
+  c.diagonal_of.ensures.1,
+)
