@@ -1,8 +1,7 @@
 // Runs the records of standard input, one call each, and prints a line for each: the tag, what the call said, and every
-// lent cell, after a refusal too, or what is answered by value, with zeros for it after one. No lent cell is zero before
-// the call. J, j and b print lent matrices and the like
-// before the lists; J also the report that `put_report` makes of it, its bytes in hexadecimal digits. N prints the
-// passes of each stage, and those begun behind a refusal with 8.
+// lent cell, after a refusal too, or what is answered by value, zeros after a refusal. No lent cell is zero before the
+// call. J, j and b print lent matrices and the like before the lists; J also the report that `put_report` makes of it,
+// its bytes in hexadecimal digits. N prints the passes of each stage, and those begun behind a refusal with 8.
 //
 // A record is a tag and the call's arguments. A float is its pattern, eight bytes; a size is eight bytes too; a matrix
 // is nine signed bytes, a basis nine floats, row by row; a position is three floats; an element is four bytes, a text
