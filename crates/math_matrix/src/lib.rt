@@ -12,7 +12,7 @@ ghost use Rattle.math_matrix.specs.Rows.{cross_of, dot_of};
 
 use definitions::{Cofactors, Integers, Linear, Point, Rotation, SnfMatrix};
 
-// Entry by entry, and in `wider` row by row: arrays' `map` requires that three of S fit in memory, which of any S is not
+// Entry by entry, in `wider` row by row: arrays' `map` requires that three of S fit in memory, which of any S is not
 // known, and gets no proof of a function, as `T::from`, whose result names a type that its argument does not.
 fn wider_row<S, T: From<S>>(x: [S; 3]) -> [T; 3]
     ensures { AllZip T.from_gives x result }
