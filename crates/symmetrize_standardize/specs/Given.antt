@@ -1,5 +1,9 @@
 -- What the whole call and its steps are given and lent, as the definitions speak of it.
-use Rattle.std.specs.Prelude.{◌≡◌, take}
+use Rattle.std.specs.Prelude.{◌≡◌, ℕ, List, length, take}
+use Rattle.std.proofs.Common.{Bor}
+use Rattle.definitions.specs.Real.{RealMatrix}
+use Rattle.symmetrize_align.specs.declared.GivenAlignment.{GivenAlignment}
+use Rattle.symmetrize_lattice.specs.declared.GivenLattice.{GivenLattice}
 use Rattle.definitions.specs.SiteCalls.{ListingCells, LabelArguments, SpaceCells}
 use Rattle.definitions.specs.WholeCalls.{Given, AnswerCells}
 use Rattle.symmetrize_wyckoff.specs.Lettering.{Placed}
@@ -74,4 +78,30 @@ placed_in w s l =
       candidates = w.multiplicities.now;
       letters = w.letters.now;
       spaces = s;
+    }
+
+-- ---- what the sub-calls are given of a job
+
+abbrev pub alignment_of : Job → GivenAlignment
+alignment_of j =
+    record {
+      t = j.t;
+      operations = record { rotations = j.rotations; images = j.images; sites = length j.positions.now };
+      targets = j.rotations_of_targets;
+    }
+
+abbrev pub lattice_of : Job → GivenLattice
+lattice_of j = record { lattice = j.lattice; t = j.t; c = j.c; rotations = j.conventional }
+
+abbrev pub work_of : Job → Bor (List ℕ) → ℕ → RealMatrix → Work
+work_of j aligned listed basis =
+    record {
+      sites = length j.positions.now;
+      count = length j.rotations_of_targets.now;
+      aligned = aligned;
+      listed = listed;
+      basis = basis;
+      symprec = j.symprec;
+      multiplicities = j.multiplicities;
+      letters = j.letters;
     }

@@ -12,7 +12,7 @@ ghost use Rattle.base_cell.specs.Given.{orbit_cells, SameRooms, SameOrbits};
 ghost use Rattle.base_transformation.specs.Runs.{held};
 ghost use Rattle.data_wyckoff.specs.Spaces.{lists};
 ghost use Rattle.symmetrize_standardize.specs.Given.{given_by, answer_cells, SameAnswer};
-ghost use Rattle.symmetrize_standardize.specs.Given.{labelling_of, placed_in};
+ghost use Rattle.symmetrize_standardize.specs.Given.{labelling_of, placed_in, alignment_of, lattice_of, work_of};
 ghost use Rattle.symmetrize_wyckoff.specs.Given.{letter_cells};
 ghost use Rattle.symmetrize_standardize.specs.Stages.{Finished, lacks_room, images_room, Uncleared};
 
@@ -53,6 +53,35 @@ pub struct Job<'a> {
     pub letters: &'a [u8],
     pub texts: &'a [Text],
     pub symprec: f64,
+}
+
+impl<'a> Job<'a> {
+    // What is aligned to the targets.
+    fn alignment(&self) -> GivenAlignment<'a, 'a>
+        ensures { result ≡ alignment_of self.now }
+    {
+        GivenAlignment {
+            t: self.t,
+            operations: Operations {
+                rotations: self.rotations,
+                images: self.images,
+                sites: self.positions.len(),
+            },
+            targets: self.rotations_of_targets,
+        }
+    }
+
+    // The lattice that the conventional rotations symmetrise.
+    fn given_lattice(&self) -> GivenLattice<'a>
+        ensures { result ≡ lattice_of self.now }
+    {
+        GivenLattice {
+            lattice: self.lattice,
+            t: self.t,
+            c: self.c,
+            rotations: self.conventional,
+        }
+    }
 }
 
 // What is lent for the answer.
@@ -112,15 +141,31 @@ impl Answer<'_> {
 // What the letters are read off beside the listing, which holds so many sites, and the candidates' spaces: the aligned
 // images, the listed basis and the candidates.
 #[derive(Clone, Copy)]
-pub(crate) struct Work<'a> {
+pub(crate) struct Work<'w, 'j> {
     pub(crate) sites: usize,
     pub(crate) count: usize,
-    pub(crate) aligned: &'a [u8],
+    pub(crate) aligned: &'w [u8],
     pub(crate) listed: usize,
     pub(crate) basis: Basis,
     pub(crate) symprec: f64,
-    pub(crate) multiplicities: &'a [u16],
-    pub(crate) letters: &'a [u8],
+    pub(crate) multiplicities: &'j [u16],
+    pub(crate) letters: &'j [u8],
+}
+
+// With these aligned images, so many listed sites and this listed basis.
+fn work_of<'w, 'j>(job: &Job<'j>, aligned: &'w [u8], listed: usize, basis: Basis) -> Work<'w, 'j>
+    ensures { result ≡ work_of job.now aligned.entry listed basis }
+{
+    Work {
+        sites: job.positions.len(),
+        count: job.rotations_of_targets.len(),
+        aligned,
+        listed,
+        basis,
+        symprec: job.symprec,
+        multiplicities: job.multiplicities,
+        letters: job.letters,
+    }
 }
 
 // The letters of the listed sites: an answer, or 13.
@@ -172,23 +217,8 @@ fn answer_with(job: &Job, aligned: &mut [u8], answer: &mut Answer) -> Result<Ans
     let mut table = [Space::ZERO; MOST_CANDIDATES];
     let spaces = &mut table[..verdicts::candidates_room(job.texts.len())];
     let prepared = prepare_all(job.texts, spaces);
-    let alignment = GivenAlignment {
-        t: job.t,
-        operations: Operations {
-            rotations: job.rotations,
-            images: job.images,
-            sites: job.positions.len(),
-        },
-        targets: job.rotations_of_targets,
-    };
-    let found = align_permutations(&alignment, aligned);
-    let given = GivenLattice {
-        lattice: job.lattice,
-        t: job.t,
-        c: job.c,
-        rotations: job.conventional,
-    };
-    let lattice = symmetrize_lattice(&given);
+    let found = align_permutations(&job.alignment(), aligned);
+    let lattice = symmetrize_lattice(&job.given_lattice());
     let factors = invariant_factors(job.c);
     let told = Told {
         prepared,
@@ -212,17 +242,8 @@ fn answer_with(job: &Job, aligned: &mut [u8], answer: &mut Answer) -> Result<Ans
         elements: answer.elements,
     };
     cell::list_cell(job, aligned, answer.primitive, &mut listing);
-    let sites = job.positions.len();
-    let work = Work {
-        sites,
-        count: job.rotations_of_targets.len(),
-        aligned,
-        listed: sites * copies(job.c),
-        basis,
-        symprec: job.symprec,
-        multiplicities: job.multiplicities,
-        letters: job.letters,
-    };
+    let listed = job.positions.len() * copies(job.c);
+    let work = work_of(job, aligned, listed, basis);
     let mut orbits = Orbits {
         labels: answer.labels,
         multiplicities: answer.multiplicities,

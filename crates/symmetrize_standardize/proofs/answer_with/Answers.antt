@@ -7,7 +7,7 @@ use lib.ListN.{length, take, replicate}
 use lib.Seq.{length-take-le, take_all}
 use Rattle.std.specs.Prelude.{Ok}
 use Rattle.definitions.specs.Refusal.{Verdict}
-use Rattle.definitions.specs.Calls.{LatticePromise, FactorsPromise}
+use Rattle.definitions.specs.Calls.{AlignPromise, LatticePromise, FactorsPromise}
 use Rattle.definitions.specs.Limits.{copies}
 use Rattle.definitions.specs.SiteCalls.{space_rooms}
 use Rattle.definitions.specs.WholeCalls.{Given, AnswerCells, rooms_of}
@@ -20,8 +20,8 @@ use Rattle.base_transformation.specs.Runs.{held}
 use Rattle.base_cell.specs.Given.{orbit_cells}
 use Rattle.symmetrize_wyckoff.specs.Given.{letter_cells}
 use Rattle.symmetrize_standardize.specs.declared.verdicts.Told.{Told}
-use Rattle.symmetrize_standardize.specs.Given.{given_by, answer_cells}
-use Rattle.symmetrize_standardize.specs.Stages.{Uncleared, candidates_room, whole_verdict}
+use Rattle.symmetrize_standardize.specs.Given.{given_by, answer_cells, labelling_of, placed_in}
+use Rattle.symmetrize_standardize.specs.Stages.{Finished, Uncleared, candidates_room, whole_verdict}
 use Rattle.symmetrize_standardize.proofs.General.{Until}
 use Rattle.symmetrize_standardize.proofs.Ladder.{conditions, table_rooms, few_candidates, Right, whole_until}
 use Rattle.symmetrize_standardize.proofs.Parts.{listed-word, fits_kept}
@@ -69,11 +69,29 @@ told w =
       lattice = w.symmetrize_lattice-lattice.result;
     }
 
+-- what the sub-calls promise, of the job's own lists
+aligns :
+    (w : After-whole_verdict) →
+    AlignPromise (given w).t (given w).rotations (given w).images (length (given w).positions) (given w).rotations_of_targets
+    w.args.aligned.now (images w) w.align_permutations-found.result
+aligns w =
+    subst
+    (λ g. AlignPromise g.t g.operations.rotations.now g.operations.images.now g.operations.sites g.targets.now
+    w.args.aligned.now (images w) w.align_permutations-found.result)
+    w.alignment.ensures w.align_permutations-found.ensures
+
+deformed :
+    (w : After-whole_verdict) →
+    LatticePromise (given w).lattice (given w).t (given w).c (given w).conventional w.symmetrize_lattice-lattice.result
+deformed w =
+    subst (λ g. LatticePromise g.lattice g.t g.c g.rotations.now w.symmetrize_lattice-lattice.result)
+    w.given_lattice.ensures w.symmetrize_lattice-lattice.ensures
+
 right : (w : After-whole_verdict) → Right (given w) (told w)
 right w =
     right_of (given w) (lists (no_spaces w)) (lists (spaces w)) w.prepare_all-prepared.result (table_rooms_lem w) w.prepare_all-prepared.ensures.prepared
-    w.args.aligned.now (images w) w.align_permutations-found.result w.requires w.align_permutations-found.ensures
-    w.symmetrize_lattice-lattice.result w.symmetrize_lattice-lattice.ensures
+    w.args.aligned.now (images w) w.align_permutations-found.result w.requires (aligns w)
+    w.symmetrize_lattice-lattice.result (deformed w)
     w.invariant_factors-factors.result w.invariant_factors-factors.ensures
 
 -- ---- the verdict
@@ -107,7 +125,7 @@ returns-in_err-bases-clause-uncleared c =
     let p = passed w c.in_ok-whole_verdict.ensures in
     absurd
     (lattice_unrefused x (rooms_of (lent w)) p r
-    (subst (LatticePromise x.lattice x.t x.c x.conventional) c.in_err-bases.was w.symmetrize_lattice-lattice.ensures))
+    (subst (LatticePromise x.lattice x.t x.c x.conventional) c.in_err-bases.was (deformed w)))
 
 pub returns-in_err-diagonal-clause-uncleared : goal.returns-in_err-diagonal-clause-uncleared
 returns-in_err-diagonal-clause-uncleared c =
@@ -131,9 +149,9 @@ list_cell-requires c =
 counted : (w : After-whole_verdict) (m : ℕ) → m ≡ copies w.args.job.now.c → length w.args.job.now.positions.now * m ≡ length w.args.job.now.positions.now * copies w.args.job.now.c
 counted w m e = ap (λ k. length w.args.job.now.positions.now * k) e
 
-pub overflow_mul-work : goal.overflow_mul-work
-overflow_mul-work c =
-    let w = (goal.at.overflow_mul-work c).After-whole_verdict in
+pub overflow_mul-listed : goal.overflow_mul-listed
+overflow_mul-listed c =
+    let w = (goal.at.overflow_mul-listed c).After-whole_verdict in
     let x = given w in
     let rooms = rooms_of (lent w) in
     let p = passed w c.in_ok-whole_verdict.ensures in
@@ -145,7 +163,7 @@ letter-requires c =
     let x = given w in
     let rooms = rooms_of (lent w) in
     let roomy = known_roomy x rooms (passed w c.in_ok-whole_verdict.ensures) in
-    let listed = counted w c.copies.result c.copies.ensures in
+    let listed = ap (λ v. v.listed) c.work_of-work.ensures ∙ counted w c.copies.result c.copies.ensures in
     let kept = c.list_cell.ensures.rooms in (
       fits_kept listed roomy.positions kept.positions,
       fits_kept listed roomy.mapping kept.mapping,
@@ -194,16 +212,22 @@ returns-clause-uncleared c =
       listed_cell_basis = bases.listed;
       factors = c.in_ok-diagonal.diagonal;
     } in
+    let lettered =
+    subst
+    (λ v. Finished v.listed (labelling_of v listing) (placed_in v (lists (spaces w)) listing)
+    (letter_cells (record { labels = (lent w).labels; multiplicities = (lent w).multiplicities }) (lent w).letters)
+    (letter_cells orbits c.letter.new.letters) c.letter.result)
+    c.work_of-work.ensures c.letter.ensures.lettered in
     given_back x (lent w) z c.letter.result
     (answered x (lent w) z c.list_cell.ensures.listed.shape p
     (lists (no_spaces w)) (lists (spaces w)) w.prepare_all-prepared.result (table_rooms_lem w) w.prepare_all-prepared.ensures.prepared
-    w.args.aligned.now (images w) w.align_permutations-found.result w.requires w.align_permutations-found.ensures
+    w.args.aligned.now (images w) w.align_permutations-found.result w.requires (aligns w)
     bases.conventional
-    (subst (LatticePromise x.lattice x.t x.c x.conventional) c.in_ok-bases.was w.symmetrize_lattice-lattice.ensures)
+    (subst (LatticePromise x.lattice x.t x.c x.conventional) c.in_ok-bases.was (deformed w))
     (subst (FactorsPromise x.c) c.in_ok-diagonal.was w.invariant_factors-factors.ensures)
     (images w) (images_front w p) (lists (spaces w)) (spaces-fronts w p) c.list_cell.ensures.listed c.letter.result
     (finished_by _ _ (counted w c.copies.result c.copies.ensures) (length x.positions) (length x.rotations_of_targets) (images w)
     z.mapping z.positions bases.listed x.symprec x.multiplicities x.letters (lists (spaces w)) (letter_cells (record { labels = (lent w).labels; multiplicities = (lent w).multiplicities }) (lent w).letters)
-    (letter_cells orbits c.letter.new.letters) c.letter.result c.letter.ensures.lettered))
+    (letter_cells orbits c.letter.new.letters) c.letter.result lettered))
     (search (rules, c.list_cell.ensures.same_lists)) (search (rules, c.list_cell.ensures.same_lists)) (search (rules, c.list_cell.ensures.same_lists))
     (search (rules, c.list_cell.ensures.same_lists)) (search (rules, c.letter.ensures.same_orbits)) (search (rules, c.letter.ensures.same_orbits))
