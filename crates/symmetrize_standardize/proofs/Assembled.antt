@@ -400,24 +400,6 @@ given_back x e y r {ps} {fs} {ms} {es} {ls} {us} u a b c d f g =
 
 -- ---- cleared after a refusal
 
--- lent lists that were cleared, from what was left in them
-pub cleared_from :
-    (e y z : AnswerCells) → rooms_of y ≡ rooms_of e → HoldsAnswer y z nothing_answered → HoldsAnswer e z nothing_answered
-cleared_from e y z r h =
-    record {
-      positions = h.positions ∙ ap (λ n. padded zero_cells [] n.positions) r;
-      points = h.points ∙ ap (λ n. padded zero_point [] n.points) r;
-      mapping = h.mapping ∙ ap (λ n. padded 0 [] n.mapping) r;
-      elements = h.elements ∙ ap (λ n. padded (pos 0) [] n.elements) r;
-      labels = h.labels ∙ ap (λ n. padded 0 [] n.labels) r;
-      multiplicities = h.multiplicities ∙ ap (λ n. padded 0 [] n.multiplicities) r;
-      letters = h.letters ∙ ap (λ n. padded 0 [] n.letters) r;
-      primitive = h.primitive ∙ ap (λ n. padded zero_cells [] n.primitive) r;
-      primitive_cell_basis = h.primitive_cell_basis;
-      listed_cell_basis = h.listed_cell_basis;
-      factors = h.factors;
-    }
-
 -- the promise of the call, from what it is before it clears
 pub promise_refused :
     (x : Given) (e y z : AnswerCells) (r : Result AnswerCounts Refusal) → is_err r ≡ true → Uncleared x e y r →

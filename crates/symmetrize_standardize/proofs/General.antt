@@ -81,9 +81,3 @@ pick_here b x y e = rw e
 
 pub pick_next : {A : Type 0} (b : Bool) (x y v : A) → b ≡ false → v ≡ y → v ≡ cond b x y
 pick_next b x y v e f = rw e f
-
-pub then_accepted : (v w r : Verdict) → v ≡ (Ok tt) → r ≡ w → r ≡ then_verdict v w
-then_accepted v w r e f = rw e f
-
-pub then_refused : (v w : Verdict) (r : Refusal) → v ≡ Err r → Err r ≡ then_verdict v w
-then_refused v w r e = rw e

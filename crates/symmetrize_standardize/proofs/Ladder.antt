@@ -15,7 +15,7 @@ use Rattle.definitions.specs.declared.Refusal.TheVariants.{Counts, MatrixEntry, 
 use Rattle.definitions.specs.declared.Refusal.TheVariants.{ListedSites, Buffer, TargetRotation, Lattice}
 use Rattle.definitions.specs.Lists.{any, Some}
 use Rattle.definitions.specs.Refusal.{Condition, Applies, Checked, precedence}
-use Rattle.definitions.specs.Limits.{too_many_sites, not_some, too_many_candidates, not_unimodular, bad_copies, copies, too_many_listed, shorter_than}
+use Rattle.definitions.specs.Limits.{too_many_candidates, not_unimodular, bad_copies, copies, too_many_listed, shorter_than}
 use Rattle.definitions.specs.Lent.{bad_images}
 use Rattle.definitions.specs.Snf.{Leaves}
 use Rattle.definitions.specs.Symmetrization.{lattice_fails, conventional_basis}
@@ -25,7 +25,6 @@ use Rattle.definitions.specs.Transformation.{rotation_absent, target_absent}
 use Rattle.definitions.specs.Standardize.{Rooms, site_count, listed_count, listed_rooms, too_short, BadCoordinates, TextLeaves}
 use Rattle.definitions.specs.WholeCalls.{Given, job_from, unlike_lists, lists_conditions}
 use Rattle.laws.specs.Tests.{so, not_so, off, neither, neither_left, neither_right, or_left, or_right, true_of}
-use Rattle.laws.specs.Limits.{few_entries}
 use Rattle.laws.specs.Order.{numbered}
 use Rattle.laws.specs.Verdicts.{HoldsAt, Passed, found_at_lem, refuse, verdict_of, verdict_in}
 use Rattle.symmetrize_standardize.specs.Stages.{refused_with, list_counts, list_entries, list_floats, given_verdict}
@@ -67,13 +66,6 @@ module _ (x : Given) (rooms : Rooms) where
       rung conditions 2 4 MatrixEntry (list_entries x) _ p₂ (subst T (sym (same_entries x k))) (subst T (same_entries x k)) (λ p h. refl) (λ p₃.
       rung conditions 3 4 FloatRange (list_floats x) (Ok tt) p₃ (subst T (sym (same-floats x k))) (subst T (same-floats x k)) (λ p h. refl) (λ p₄. p₄))))
 
--- few sites, where the first verdict accepts
-pub given_few : (x : Given) → given_verdict x ≡ (Ok tt) → length x.positions ≤ 256
-given_few x e = ltb-false _ _ (within_limits x nowhere (subst (Until (conditions x nowhere) 4) e (given_until x nowhere))).sites
-  where
-    nowhere : Rooms
-    nowhere = record { positions = 0; points = 0; mapping = 0; elements = 0; labels = 0; multiplicities = 0; letters = 0; primitive = 0 }
-
 -- ---- the sub-calls
 
 -- room for every candidate in five tables, and for every permutation
@@ -88,14 +80,6 @@ aligned_room x = images_room (length x.positions) (length x.rotations_of_targets
 -- which is all that there are, within the limits
 pub aligned_room_lem : (x : Given) → Within x → aligned_room x ≡ length x.rotations_of_targets * length x.positions
 aligned_room_lem x w = λ i. cond (w.sites i) 0 (cond (w.targets i) 0 (length x.rotations_of_targets * length x.positions))
-
-pub few_images : (n g : ℕ) → images_room n g ≤ 24576
-few_images n g = by (too_many_sites n) refl (not_some g) refl
-  where
-    by : (a : Bool) → too_many_sites n ≡ a → (b : Bool) → not_some g ≡ b → cond a 0 (cond b 0 (g * n)) ≤ 24576
-    by true e b f = let h : 0 ≤ 24576 = omega arith in h
-    by false e true f = let h : 0 ≤ 24576 = omega arith in h
-    by false e false f = few_entries n g f (ltb-false _ _ e)
 
 pub few_candidates : (w : ℕ) → candidates_room w ≤ 64
 few_candidates w = by (too_many_candidates w) refl

@@ -1,12 +1,12 @@
 -- Lists laid one behind the other, and taken apart again; what is written to the front of a lent list, and read there.
 use Prim.Native.Nat.{ℕ, suc, ◌-◌, ◌*◌, ◌≤◌}
-use mathlib.Core.Path.{◌≡◌, refl, sym, ap, ◌∙◌, subst}
+use mathlib.Core.Path.{◌≡◌, refl, sym, ap, ◌∙◌}
 use mathlib.Core.Bool.{Bool, false}
 use mathlib.Core.List.{List, [], ◌∷◌, ◌++◌, map, append_assoc, Memᴰ}
 use native.Mathlib.Omega.{arith}
 use native.Mathlib.Nat.{suc-mul, mul-le-mul}
-use lib.ListN.{length, take, drop, replicate, length-append, length-map}
-use lib.Seq.{take_at, take_all, drop_at, length_front}
+use lib.ListN.{length, take, replicate, length-append, length-map}
+use lib.Seq.{take_at, drop_at}
 use mir.Syntax.{w64}
 use mir.Val.{Fits}
 use Rattle.definitions.specs.Lists.{any, each, Each, up_from}
@@ -60,15 +60,6 @@ length_parts n (p ∷ ps) h =
 pub front_of : {A : Type 0} (z : A) (a l : List A) (room n : ℕ) → l ≡ padded z a room → length a ≡ n → take n l ≡ a
 front_of z a l room n e h = ap (take n) e ∙ take_at a (replicate (room - length a) z) n h
 
--- a front that was lent is back: what is read there, and that there is room for it
-pub front_back : {A : Type 0} (i k : ℕ) (ys zs : List A) → i ≡ k → length ys ≡ i → take i (ys ++ zs) ≡ take k ys
-front_back i k ys zs e h =
-    let l : length ys ≤ k = omega arith in
-    take_at ys zs i h ∙ sym (take_all k ys l)
-
-pub front_room : {A : Type 0} (i : ℕ) (d ys : List A) → i ≤ length d → length ys ≡ length (take i d) → i ≤ length (ys ++ drop i d)
-front_room i d ys h e = subst (λ n. i ≤ n) (sym (length_front d ys i e)) h
-
 -- positions that were held as cells
 pub cells_back : (ps : List Position) → map position_from (map cells_of ps) ≡ ps
 cells_back [] = refl
@@ -83,7 +74,3 @@ listed-word n m p q = omega (arith, mul-le-mul p q)
 
 pub fits_kept : {a b c d : ℕ} → a ≡ b → b ≤ c → d ≡ c → a ≤ d
 fits_kept {a} {b} {c} {d} e h k = omega arith
-
--- what there is room for, in a list that kept its length
-pub still_room : {a b c : ℕ} → a ≤ c → b ≡ c → a ≤ b
-still_room {a} {b} {c} h k = omega arith

@@ -7,6 +7,7 @@ mod orbits;
 mod verdicts;
 
 ghost use Rattle.std.specs.Prelude.{◌*◌, ◌≤◌, ◌≡◌, length};
+ghost use Rattle.definitions.specs.Limits.{most_images};
 ghost use Rattle.definitions.specs.WholeCalls.{HoldsAnswer, nothing_answered, ListsPromise, rooms_of};
 ghost use Rattle.base_cell.specs.Given.{orbit_cells, SameRooms, SameOrbits};
 ghost use Rattle.base_transformation.specs.Runs.{held};
@@ -258,7 +259,7 @@ fn answer_within<const N: usize>(
     answer: &mut Answer,
 ) -> Result<AnswerCounts, Refusal>
     requires { (entries ≡ images_room (length job.now.positions.now) (length job.now.rotations_of_targets.now))
-        × (entries ≤ N) × (N ≤ 24576) }
+        × (entries ≤ N) × (N ≤ most_images) }
     ensures uncleared { Uncleared (given_by job.now) (answer_cells answer.old) (answer_cells answer.new) result }
     ensures rooms { rooms_of (answer_cells answer.new) ≡ rooms_of (answer_cells answer.old) }
     ensures same_lists { SameAnswer answer.old answer.new }
