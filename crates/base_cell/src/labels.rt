@@ -1,6 +1,8 @@
 // The labels of the listed sites and how many sites have each, in three passes over the list.
-ghost use Rattle.std.specs.Prelude.{◌≤◌, ◌≡◌, ◌++◌, length, drop, replicate};
-ghost use Rattle.definitions.specs.Limits.{most_listed};
+ghost use Rattle.std.specs.Prelude.{◌≤◌, ◌<◌, ◌≡◌, ◌+◌, ◌++◌, length, drop, replicate};
+ghost use Rattle.std.specs.Prelude.{slice_index, set};
+ghost use Rattle.std.specs.Option.{unwrap_or};
+ghost use Rattle.definitions.specs.Limits.{most_listed, most_sites};
 ghost use Rattle.definitions.specs.Orbit.{multiplicities as multiplicities_of};
 ghost use Rattle.definitions.specs.SiteCalls.{permutations_in};
 ghost use Rattle.base_cell.specs.Given.{arguments_of};
@@ -10,6 +12,7 @@ ghost use Rattle.base_cell.specs.Grouping.{Below, Counted, Groupable, Room, Grou
 use crate::union_find::{Sites, orbits_from_permutations};
 use crate::verdicts::Labelling;
 use definitions::limits::{MOST_LISTED, MOST_SITES};
+use definitions::{ListedSite, PrimSite};
 
 // How many listed sites have each label.
 type Counts = [u16; MOST_LISTED];
@@ -21,6 +24,38 @@ pub(crate) struct Grouping<'i, 'm> {
     ghost groupable: { Groupable (arguments_of labelling) },
 }
 
+fn root_of(roots: &Sites, i: PrimSite) -> PrimSite
+    requires { i.0 < most_sites }
+    ensures { (result.0 ≡ slice_index roots.now i.0) × (result.0 < most_sites) }
+{
+    PrimSite(usize::from(roots[i.0]))
+}
+
+// The listed site that was noted before, or else j.
+fn first_or(noted: Option<u16>, j: ListedSite) -> ListedSite
+    ensures { result.0 ≡ unwrap_or noted j.0 }
+{
+    match noted {
+        Some(first) => ListedSite(usize::from(first)),
+        None => j,
+    }
+}
+
+fn count_site(counts: &mut Counts, label: ListedSite)
+    requires { (label.0 < most_listed) × (slice_index counts.old label.0 < most_listed) }
+    ensures { counts.new
+        ≡ set counts.old label.0 (slice_index counts.old label.0 + 1) }
+{
+    counts[label.0] += 1;
+}
+
+fn sites_of(counts: &Counts, label: ListedSite) -> u16
+    requires { label.0 < most_listed }
+    ensures { result ≡ slice_index counts.now label.0 }
+{
+    counts[label.0]
+}
+
 // The table is the caller's: one that is returned is copied twice.
 fn count_sites(labels: &[u16], counts: &mut Counts)
     requires { (Below most_listed labels.now) × (length labels.now ≤ most_listed)
@@ -28,7 +63,7 @@ fn count_sites(labels: &[u16], counts: &mut Counts)
     ensures { Counted most_listed labels.now counts.new }
 {
     for label in labels {
-        counts[usize::from(*label)] += 1;
+        count_site(counts, ListedSite(usize::from(*label)));
     }
 }
 
@@ -40,7 +75,7 @@ fn put_multiplicities(labels: &[u16], counts: &Counts, out: &mut [u16])
 {
     // over the labels and not over the cells of `out`: an index either way
     for (j, label) in labels.iter().enumerate() {
-        out[j] = counts[usize::from(*label)];
+        out[j] = sites_of(counts, ListedSite(usize::from(*label)));
     }
 }
 
@@ -55,10 +90,11 @@ impl Grouping<'_, '_> {
         let mut first: [Option<u16>; MOST_SITES] = [None; MOST_SITES];
         for (j, site) in self.labelling.mapping.iter().enumerate() {
             let i = usize::from(*site);
-            let root = usize::from(roots[i]);
-            let label = first[root].unwrap_or(j as u16);
-            first[root] = Some(label);
-            labels[j] = label;
+            let root = root_of(roots, PrimSite(i));
+            let label = first_or(first[root.0], ListedSite(j));
+            let l = label.0 as u16;
+            first[root.0] = Some(l);
+            labels[j] = l;
         }
     }
 

@@ -9,13 +9,14 @@ ghost use Rattle.base_cell.specs.Classes.{Decides};
 ghost use Rattle.base_cell.specs.Trees.{Forest, root, Flat, Linked, Pair, Along};
 
 use crate::labels::Grouping;
+use definitions::PrimSite;
 use definitions::limits::MOST_SITES;
 
 // The root of each site.
 pub(crate) type Sites = [u8; MOST_SITES];
 
-// The parent of each site. A call names a site by its place in the table: as a byte it would need no bound, but cutting
-// places to bytes makes the joining, the hot loop, a fifth slower.
+// The parent of each site. A call names a site by its number, its place in the table: as a byte it would need no bound,
+// but cutting places to bytes makes the joining, the hot loop, a fifth slower.
 #[derive(Drop)]
 struct SiteForest {
     parent: [u8; MOST_SITES],
@@ -36,40 +37,44 @@ impl SiteForest {
     }
 
     // The root of site i.
-    fn find(&self, i: usize) -> usize
-        requires { i < most_sites }
-        ensures { (result ≡ root self.now.parent i) × (result < most_sites) }
+    fn find(&self, i: PrimSite) -> PrimSite
+        requires { i.0 < most_sites }
+        ensures { (result.0 ≡ root self.now.parent i.0) × (result.0 < most_sites) }
     {
-        let mut at = i;
+        let mut at = i.0;
         let mut up = usize::from(self.parent[at]);
         while up < at {
             at = up;
             up = usize::from(self.parent[at]);
         }
-        at
+        PrimSite(at)
     }
 
     // The tree of i and that of j become one: the root that comes later under the other, and i and j directly below it,
     // so that later ways up are short. Sites of one parent are of one tree already.
-    fn union(&mut self, i: usize, j: usize)
-        requires { (i < most_sites) × (j < most_sites) }
-        ensures { Linked most_sites (Pair i j) self.old.parent self.new.parent }
+    fn union(&mut self, i: PrimSite, j: PrimSite)
+        requires { (i.0 < most_sites) × (j.0 < most_sites) }
+        ensures { Linked most_sites (Pair i.0 j.0) self.old.parent self.new.parent }
     {
-        if self.parent[i] == self.parent[j] {
+        let p = i.0;
+        let q = j.0;
+        if self.parent[p] == self.parent[q] {
             return;
         }
-        let x = self.find(i);
-        let y = self.find(j);
+        let a = self.find(i);
+        let b = self.find(j);
+        let x = a.0;
+        let y = b.0;
         if x < y {
             let top = x as u8;
             self.parent[y] = top;
-            self.parent[j] = top;
-            self.parent[i] = top;
+            self.parent[q] = top;
+            self.parent[p] = top;
         } else {
             let top = y as u8;
             self.parent[x] = top;
-            self.parent[i] = top;
-            self.parent[j] = top;
+            self.parent[p] = top;
+            self.parent[q] = top;
         }
     }
 
@@ -79,7 +84,7 @@ impl SiteForest {
         ensures { Linked most_sites (Along p.now) self.old.parent self.new.parent }
     {
         for (i, image) in p.iter().enumerate() {
-            self.union(i, usize::from(*image));
+            self.union(PrimSite(i), PrimSite(usize::from(*image)));
         }
     }
 

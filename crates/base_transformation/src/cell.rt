@@ -19,7 +19,7 @@ ghost use Rattle.base_transformation.specs.Runs.{Makes, MakesRun, CanMake};
 use crate::{diagonalise, list_points};
 use checks::{all_cells_within, copies, in_range};
 use definitions::limits::{MOST_COPIES, MOST_LISTED, MOST_SITES};
-use definitions::{Basis, Cells, Linear, Point, Position, Refusal, Verdict};
+use definitions::{Basis, Cells, Linear, Point, Position, PrimSite, Refusal, Verdict};
 use lent::{Zero, clear, lacks_room};
 use math_real::position;
 use math_real::whole::inverse_of_c;
@@ -115,11 +115,19 @@ fn list_run_points(points: &[Point], n: usize, out: &mut [Point])
     );
 }
 
+// What the mapping holds in the run of a primitive site.
+fn site_number(i: PrimSite) -> u16
+    requires { i.0 < most_sites }
+    ensures { result ≡ i.0 }
+{
+    i.0 as u16
+}
+
 fn list_mapping(n: usize, m: usize, mapping: &mut [u16])
     requires { (n ≤ most_sites) × (n * m ≤ length mapping.old) }
     ensures { mapping.new ≡ padded 0 (site_mapping n m) (length mapping.old) }
 {
-    list_runs(n, m, mapping, |i, _| i as u16);
+    list_runs(n, m, mapping, |i, _| site_number(PrimSite(i)));
 }
 
 fn list_elements(elements: &[i32], m: usize, out: &mut [i32])

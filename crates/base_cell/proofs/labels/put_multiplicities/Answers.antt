@@ -1,5 +1,5 @@
 -- `put_multiplicities`: the first j cells are the answer's.
-use Rattle.std.proofs.Common.{◌<◌, refl, arith, length, get_or}
+use Rattle.std.proofs.Common.{◌<◌, arith, length}
 use Rattle.definitions.specs.Orbit.{multiplicities}
 use Rattle.laws.specs.Filling.{put_step, put_end}
 use Rattle.base_cell.proofs.Tables.{length-multiplicities, multiplicity_at}
@@ -13,9 +13,9 @@ loop-j-preserved c =
     let x = c.from.result in
     let hj : l.j < length ls = omega arith in
     let small : x < 1024 = omega (arith, c.from.ensures, c.requires.0 l.j hj) in
-    put_step 0 (multiplicities ls) c.args.out.now l.out l.j (get_or counts x 0) l.invariant
+    put_step 0 (multiplicities ls) c.args.out.now l.out l.j c.sites_of.result l.invariant
     (omega (arith, length-multiplicities ls)) (omega (arith, c.requires.2))
-    (multiplicity_at 1024 ls counts c.requires.1 l.j x (get_or counts x 0) hj c.from.ensures small refl)
+    (multiplicity_at 1024 ls counts c.requires.1 l.j x c.sites_of.result hj c.from.ensures small c.sites_of.ensures)
 
 pub returns : goal.returns
 returns c =

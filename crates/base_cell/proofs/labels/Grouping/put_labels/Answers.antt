@@ -19,15 +19,15 @@ loop-j-preserved c =
     let g = c.args.self.now in
     let mapping = g.labelling.mapping.now in
     let ds = classes_of roots mapping in
-    let r = c.from-root.result in
-    let label = c.unwrap_or-label.result in
+    let r = c.root_of-root.result.0 in
+    let label = c.first_or-label.result.0 in
     let class = λ (s : ℕ). get_or roots s 0 in
     let hj : l.j < length mapping = omega arith in
     let hk : l.j < length ds = omega (arith, length-map mapping class) in
-    let hr : r < 256 = omega arith in
+    let hr : r < 256 = c.root_of-root.ensures.1 in
     let is : r ≡ get_or ds l.j 0 =
-    c.from-root.ensures ∙ ap class c.from-i.ensures ∙ sym (map_at class mapping l.j 0 0 hj) in
-    let first = first_of ds 256 l.j l.first l.invariant.1 hk r hr is label c.unwrap_or-label.ensures in
+    c.root_of-root.ensures.0 ∙ ap class c.from-i.ensures ∙ sym (map_at class mapping l.j 0 0 hj) in
+    let first = first_of ds 256 l.j l.first l.invariant.1 hk r hr is label c.first_or-label.ensures in
     let right = labels_by_at roots mapping l.j label hj (subst (λ k. First k ds label) is first.0) in (
       simp length-set l.invariant.0,
       noted_more ds 256 l.j l.first l.invariant.1 hk r hr is label first l.invariant.0,
