@@ -148,6 +148,11 @@ abbrev pub outcome : {A B : Type 0} → (B → A) → Result B Refusal → Outco
 outcome f (Ok b) = accepted (f b)
 outcome f (Err r) = refused (number r)
 
+-- what is read off a result that holds the number of a refusal, whatever number it is
+abbrev pub outcome_by_number : {A : Type 0} → Result A ℕ → Outcome A
+outcome_by_number (Ok a) = accepted a
+outcome_by_number (Err k) = refused k
+
 -- what a call says whose answer stands in lent lists
 abbrev pub Verdict : Type 0
 Verdict = Result (Unit {0}) Refusal

@@ -7,7 +7,7 @@ use Rattle.definitions.specs.declared.AnswerCounts.{AnswerCounts}
 use Rattle.definitions.specs.declared.JobCounts.{JobCounts}
 use Rattle.definitions.specs.Lists.{any}
 use Rattle.definitions.specs.Refusal.{Condition, ◌when◌, job_bytes, counts, buffer}
-use Rattle.definitions.specs.Refusal.{Outcome, accepted, TellsOf, Returns, Answered, Holds}
+use Rattle.definitions.specs.Refusal.{Outcome, accepted, told as told_of, TellsOf, Returns, Answered, Holds}
 use Rattle.definitions.specs.Matrix.{Matrix}
 use Rattle.definitions.specs.Limits.{text_bytes, most_sites, most_listed, shorter_than}
 use Rattle.definitions.specs.Real.{RealMatrix, zero_f, origin}
@@ -288,8 +288,8 @@ abbrev pub SameEntries : List ℕ → List ℕ → Type 0
 SameEntries cells answer = (j : ℕ) → get_or cells j 0 ≡ get_or answer j 0
 
 -- What is told of a job, and the cells of these lists, are those of the outcome o.
-pub record Tells (r : Result AnswerCounts Refusal) (cells : Shown) (o : Outcome Answer) : Type 0 where
-  pub told : TellsOf answer_counts o r
+pub record Tells (r : Outcome AnswerCounts) (cells : Shown) (o : Outcome Answer) : Type 0 where
+  pub told : told_of answer_counts o ≡ r
   pub mapping : (a : Answer) → o ≡ accepted a → SameEntries cells.mapping a.mapping
   pub labels : (a : Answer) → o ≡ accepted a → SameEntries cells.labels a.labels
   pub multiplicities : (a : Answer) → o ≡ accepted a → SameEntries cells.multiplicities a.multiplicities
@@ -301,7 +301,7 @@ pub record Written (text entry exit : List ℕ) (n : ℕ) : Type 0 where
   pub count : n ≡ length (take (length entry) text)
 
 -- the step that writes the report
-abbrev pub ReportWritten : Result AnswerCounts Refusal → Shown → List ℕ → List ℕ → ℕ → Type 0
+abbrev pub ReportWritten : Outcome AnswerCounts → Shown → List ℕ → List ℕ → ℕ → Type 0
 ReportWritten r cells entry exit n = (o : Outcome Answer) → Tells r cells o → Written (report o) entry exit n
 
 -- the text that is printed for the bytes on standard input

@@ -7,7 +7,7 @@ use Rattle.definitions.specs.declared.Refusal.{Refusal}
 use Rattle.definitions.specs.declared.AnswerCounts.{AnswerCounts}
 use Rattle.definitions.specs.Lists.{any}
 use Rattle.definitions.specs.Refusal.{Holds, Applies, precedence, listed_sites, PastAll, Outcome, accepted, refused}
-use Rattle.definitions.specs.Refusal.{Returns, TellsOf}
+use Rattle.definitions.specs.Refusal.{Returns, TellsOf, outcome}
 use Rattle.definitions.specs.Limits.{too_many_listed, most_listed}
 use Rattle.definitions.specs.Job.{job_of}
 use Rattle.definitions.specs.Standardize.{Answer, IsAnswer, listed_count, bytes_conditions, OfParts}
@@ -47,7 +47,7 @@ module _ (bs : List ℕ) (entry exit : AnswerCells) (r : Result AnswerCounts Ref
       let few = off (too_many_listed (listed_count (job_of p))) (λ t. none_of (bytes_conditions bs (rooms_of entry)) precedence listed_sites tt past (inl (p, i, t))) in
       subst (λ (b : Answer). b.sites ≤ most_listed) (sym e) (ltb-false most_listed (listed_count (job_of p)) few)
 
-  tells : (a : Answer) → HoldsAnswer entry exit a → TellsOf answer_counts (accepted a) r → Tells r (shown exit) (accepted a)
+  tells : (a : Answer) → HoldsAnswer entry exit a → TellsOf answer_counts (accepted a) r → Tells (outcome (λ c. c) r) (shown exit) (accepted a)
   tells a h e =
       record {
         told = e;
@@ -65,7 +65,7 @@ module _ (bs : List ℕ) (entry exit : AnswerCells) (r : Result AnswerCounts Ref
           answer (accepted c) = c
           answer (refused k) = a
 
-  tells_refused : (k : ℕ) → TellsOf answer_counts (refused k) r → Tells r (shown exit) (refused k)
+  tells_refused : (k : ℕ) → TellsOf answer_counts (refused k) r → Tells (outcome (λ c. c) r) (shown exit) (refused k)
   tells_refused k e =
       record {
         told = e;
@@ -81,7 +81,7 @@ module _ (bs : List ℕ) (entry exit : AnswerCells) (r : Result AnswerCounts Ref
   -- What is printed: the report, and every byte of it.
   pub printed :
       rooms_of entry ≡ ample → BytesPromise bs entry exit r → (old new : List ℕ) (n : ℕ) → report_bytes ≤ length old →
-      ReportWritten r (shown exit) old new n → ReportPromise bs (take n new) × (n ≤ length new)
+      ReportWritten (outcome (λ c. c) r) (shown exit) old new n → ReportPromise bs (take n new) × (n ≤ length new)
   unfolding Returns
   printed rooms (accepted a, (ret, holds), told) old new n room w =
       let written = w (accepted a) (tells a holds told) in (

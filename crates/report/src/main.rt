@@ -3,6 +3,7 @@
 #![tactic(auto)]
 
 ghost use Rattle.std.specs.Prelude.{◌≡◌, length, take, IfOk};
+ghost use Rattle.definitions.specs.Refusal.{outcome};
 ghost use Rattle.definitions.specs.WholeCalls.{ReportPromise, ReportWritten};
 ghost use Rattle.symmetrize_standardize.specs.Given.{answer_cells};
 ghost use Rattle.report.specs.Input.{input_bytes};
@@ -30,7 +31,7 @@ fn input_buffer() -> [u8; INPUT_BYTES]
 
 // The report of what is told of an answer, which is read here alone.
 fn put_answer(told: Result<AnswerCounts, Refusal>, answer: &Answer, text: &mut [u8]) -> usize
-    ensures { ReportWritten told (shown (answer_cells answer.now)) text.old text.new result }
+    ensures { ReportWritten (outcome (λ c. c) told) (shown (answer_cells answer.now)) text.old text.new result }
 {
     let columns = Columns {
         mapping: answer.mapping,
@@ -38,7 +39,7 @@ fn put_answer(told: Result<AnswerCounts, Refusal>, answer: &Answer, text: &mut [
         multiplicities: answer.multiplicities,
         letters: answer.letters,
     };
-    put_report(told, &columns, text)
+    put_report(told.map_err(usize::from), &columns, text)
 }
 
 // The report of a job's bytes, and how many bytes of the text it is.

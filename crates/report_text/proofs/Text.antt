@@ -5,11 +5,9 @@ use mathlib.Core.List.{List, [], ◌∷◌, ◌++◌, append-nil, append_assoc}
 use native.Mathlib.Numerals.{add-one}
 use native.Mathlib.Omega.{arith}
 use lib.ListN.{get_or}
-use Rattle.std.specs.Prelude.{Result, Ok, Err}
-use Rattle.definitions.specs.declared.Refusal.{Refusal}
 use Rattle.definitions.specs.declared.AnswerCounts.{AnswerCounts}
 use Rattle.definitions.specs.Lists.{each, up_from, up_to}
-use Rattle.definitions.specs.Refusal.{Outcome, accepted, refused, outcome, number}
+use Rattle.definitions.specs.Refusal.{Outcome, accepted, refused}
 use Rattle.definitions.specs.Standardize.{Answer}
 use Rattle.definitions.specs.Report.{decimal, site_line, report}
 use Rattle.definitions.specs.WholeCalls.{Shown, Tells, Written, ReportWritten}
@@ -57,12 +55,12 @@ unfolding each
 each_same f g h [] = refl
 each_same f g h (j ∷ l) = rw (h j, each_same f g h l)
 
-module _ (r : Result AnswerCounts Refusal) (s : Shown) where
+module _ (r : Outcome AnswerCounts) (s : Shown) where
   line_told : (a : Answer) → Tells r s (accepted a) → (j : ℕ) → site_line a j ≡ line_text s j
   line_told a t j = rw (t.mapping a refl j, t.labels a refl j, t.multiplicities a refl j, t.letters a refl j)
 
   told_text : List ℕ
-  told_text = shown_text (outcome (λ c. c) r) s
+  told_text = shown_text r s
 
   report_told : (o : Outcome Answer) → Tells r s o → report o ≡ told_text
   unfolding report shown_text told_text
@@ -77,14 +75,14 @@ module _ (r : Result AnswerCounts Refusal) (s : Shown) where
   report-written {d} {l} {n} p o t = subst (λ text. Written text d l n) (sym (report_told o t)) (puts_written p)
 
   pub report_refused :
-      {k : Refusal} {n : ℕ} {d l : List ℕ} → r ≡ Err k → Puts (refusal_text (number k)) 0 d l n → ReportWritten r s d l n
+      {k n : ℕ} {d l : List ℕ} → r ≡ refused k → Puts (refusal_text k) 0 d l n → ReportWritten r s d l n
   unfolding shown_text told_text
   report_refused {k} {n} {d} {l} e p =
-      report-written (subst (λ q. Puts (shown_text (outcome (λ c. c) q) s) 0 d l n) (sym e) p)
+      report-written (subst (λ q. Puts (shown_text q s) 0 d l n) (sym e) p)
 
   pub report-accepted :
-      {sites orbits m n : ℕ} {d l k : List ℕ} → r ≡ Ok (record { sites = sites; orbits = orbits }) →
+      {sites orbits m n : ℕ} {d l k : List ℕ} → r ≡ accepted (record { sites = sites; orbits = orbits }) →
       Puts (header_text sites orbits) 0 d l m → Puts (lines_text s sites) m l k n → ReportWritten r s d k n
   unfolding shown_text told_text
   report-accepted {n = n} {d} {k = k} e p q =
-      report-written (subst (λ q. Puts (shown_text (outcome (λ c. c) q) s) 0 d k n) (sym e) (puts_more p q))
+      report-written (subst (λ q. Puts (shown_text q s) 0 d k n) (sym e) (puts_more p q))

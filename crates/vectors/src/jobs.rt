@@ -66,7 +66,7 @@ fn lend_given<R: Read, W: Write>(streams: &mut Streams<R, W>) -> io::Result<JobV
         positions: streams.lend()?,
         rotations: streams.lend()?,
         translations: streams.lend()?,
-        images: streams.lend()?,
+        images: streams.lend_long()?,
         rotations_of_targets: streams.lend()?,
         translations_of_targets: streams.lend()?,
         conventional: streams.lend()?,
@@ -194,7 +194,7 @@ fn show_report<R: Read, W: Write>(
         multiplicities: &answer.multiplicities,
         letters: &answer.letters,
     };
-    let n = put_report(said, &columns, &mut text);
+    let n = put_report(said.map_err(usize::from), &columns, &mut text);
     streams.show_digits(&text[..n.min(REPORT_BYTES)])
 }
 

@@ -3,8 +3,12 @@ use crate::records::{Given, Shown};
 use std::alloc::Global;
 use std::io::{self, Read, Write};
 
+// The most entries of a list whose count is a number, and the most cells that are lent: what is counted beyond is left
+// out, and the bytes behind are the next record's.
+const MOST: usize = 1100;
+
 // The most entries of a list whose count is a size: some more than a job's bytes may be.
-const MOST: usize = 65600;
+const LONG: usize = 65600;
 
 #[derive(Drop)]
 pub(crate) struct Streams<R, W> {
@@ -56,19 +60,29 @@ impl<R: Read, W: Write> Streams<R, W> {
     // the count, then the entries
     pub(crate) fn read_list<T: Given>(&mut self) -> io::Result<Vec<T>> {
         let n = self.read_number()?;
-        self.read_entries(n)
+        self.read_entries(n.min(MOST))
     }
 
     // its count is a size
     pub(crate) fn read_long(&mut self) -> io::Result<Vec<u8>> {
         let n = self.read_size()?;
-        self.read_entries(n.min(MOST))
+        self.read_entries(n.min(LONG))
+    }
+
+    fn lent<T: Shown>(&mut self, n: usize) -> io::Result<Vec<T>> {
+        Ok(vec![in self.alloc; T::SEVEN; n]?)
     }
 
     // Lent cells, no one of them zero: the record has their number.
     pub(crate) fn lend<T: Shown>(&mut self) -> io::Result<Vec<T>> {
         let n = self.read_number()?;
-        Ok(vec![in self.alloc; T::SEVEN; n]?)
+        self.lent(n.min(MOST))
+    }
+
+    // Lent bytes of a long list, no one of them zero: any number.
+    pub(crate) fn lend_long(&mut self) -> io::Result<Vec<u8>> {
+        let n = self.read_number()?;
+        self.lent(n)
     }
 
     pub(crate) fn print(&mut self, text: &str) -> io::Result<()> {

@@ -1,9 +1,6 @@
 -- `put_refusal`: the word, the number behind it, and the end of the line.
-use mathlib.Core.Path.{sym}
 use Rattle.report_text.proofs.Putting.{puts_more}
 use Rattle.report_text.proofs.put_refusal.Goals as goal
 
 pub returns-clause-puts : goal.returns-clause-puts
-returns-clause-puts c =
-    let written = puts_more (puts_more c.bytes.ensures.puts c.decimal.ensures.puts) c.byte.ensures.puts in
-    rw (sym c.from.ensures) written
+returns-clause-puts c = puts_more (puts_more c.bytes.ensures.puts c.decimal.ensures.puts) c.byte.ensures.puts
