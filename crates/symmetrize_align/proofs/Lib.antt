@@ -1,5 +1,4 @@
--- Laws of the comparison, the search, the loop over the targets, and the call.
-pub mod Same
+-- Laws of the search, the loop over the targets, and the call.
 pub mod Search
 pub mod Fronts
 pub mod Accepted

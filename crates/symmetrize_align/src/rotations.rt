@@ -1,16 +1,24 @@
 // The rotations of the operations in the selected primitive basis, and the search among them.
 ghost use Rattle.std.specs.Prelude.{◌≤◌, ◌≡◌, ◌++◌, map, length, drop};
 ghost use Rattle.definitions.specs.Transformation.{same_matrix, transform_rotation};
-ghost use Rattle.symmetrize_align.specs.Aligning.{found, last_of};
+ghost use Rattle.symmetrize_align.specs.Aligning.{found, last_of, same_rows};
 
 use definitions::{Integers, Linear, Rotation};
 use math_matrix::{transform_by, unimodular_inverse, widened, wider};
+
+// Three tests without a branch. No `==` of the arrays, which goes entry by entry: the search is half of the work of a job
+// with many operations and few sites.
+fn same_row(a: [i64; 3], b: [i64; 3]) -> bool
+    ensures { result ≡ same_rows a b }
+{
+    (a[0] == b[0]) & (a[1] == b[1]) & (a[2] == b[2])
+}
 
 // apart from `last_place`, whose closure has a reference: there the check does not know that the rows are of three
 fn same(a: Integers, b: Integers) -> bool
     ensures { result ≡ same_matrix a b }
 {
-    a == b
+    same_row(a[0], b[0]) && same_row(a[1], b[1]) && same_row(a[2], b[2])
 }
 
 // ---- lists of them

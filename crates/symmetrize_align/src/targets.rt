@@ -6,6 +6,17 @@ use crate::GivenAlignment;
 use crate::rotations::last_place;
 use definitions::{Integers, Refusal, Verdict};
 
+// A permutation into a part of the answer. No `copy_from_slice`: that is C's `memmove`, which the static library would
+// need from outside.
+fn copy(p: &[u8], out: &mut [u8])
+    requires { length p.now ≡ length out.old }
+    ensures { out.new ≡ p.now }
+{
+    for (i, image) in p.iter().enumerate() {
+        out[i] = *image;
+    }
+}
+
 impl GivenAlignment<'_, '_> {
     // Refused at the first target whose rotation is not found: those before it are written.
     pub(crate) fn put_aligned(&self, moved: &[Integers], out: &mut [u8]) -> Verdict
@@ -20,7 +31,7 @@ impl GivenAlignment<'_, '_> {
             let from = k * n;
             let part = &self.operations.images[from..from + n];
             let at = i * n;
-            out[at..at + n].copy_from_slice(part);
+            copy(part, &mut out[at..at + n]);
         }
         Ok(())
     }

@@ -78,10 +78,10 @@ loop-i-preserved c =
     let l = c.loop-i in
     let f = aligned_by a.moved.now images n in
     let from = k s * n in
-    let after = c.copy_from_slice.ensures.after in
+    let after = c.copy.ensures in
     let lost : Matrix → Bool = λ g. is_none (last_of a.moved.now g) in (
-      same_len_mid (l.i * n) (l.i * n + n - l.i * n) l.out c.copy_from_slice.new.self c.copy_from_slice.auto.self ∙ l.invariant.0,
-      front_next f a.self.now.targets.now [] a.out.now l.invariant.1 (omega arith) c.copy_from_slice.new.self
+      same_len_mid (l.i * n) (l.i * n + n - l.i * n) l.out c.copy.new.out c.copy.auto.out ∙ l.invariant.0,
+      front_next f a.self.now.targets.now [] a.out.now l.invariant.1 (omega arith) c.copy.new.out
           (after ∙ part_is images n (k s) from refl _ (place s))
           (ap length after ∙ part_long images n from (from_fits s)),
       sym (any_later lost [] a.self.now.targets.now l.i (omega arith) (ap is_none (place s))) ∙ l.invariant.2,
