@@ -1,9 +1,9 @@
 // The search for a position's letter: the candidates of its orbit's multiplicity, in list order.
-ghost use Rattle.std.specs.Prelude.{◌≡◌, option_map};
+ghost use Rattle.std.specs.Prelude.{◌≡◌, option_map, is_some};
 ghost use Rattle.std.specs.List.{find};
 ghost use Rattle.symmetrize_wyckoff.specs.Prepared.{fits_real};
 
-use definitions::{Basis, Position};
+use definitions::{Basis, Fit, Position};
 use symmetrize_match::{RealSpace, match_prepared};
 
 // A candidate with its space worked out as floats.
@@ -12,6 +12,21 @@ pub(crate) struct Candidate {
     pub(crate) multiplicity: u16,
     pub(crate) letter: u8,
     pub(crate) space: RealSpace,
+}
+
+// A match is taken apart: it fits, at some place and distance, or it misses.
+fn is_fit(tried: Option<Fit>) -> bool
+    ensures { result ≡ is_some tried }
+{
+    match tried {
+        Some(
+            Fit {
+                place: _,
+                distance: _,
+            },
+        ) => true,
+        None => false,
+    }
 }
 
 // What a site is tried against.
@@ -28,7 +43,7 @@ impl Candidates<'_> {
         ensures { result ≡ fits_real self.now.basis self.now.symprec multiplicity position candidate.now }
     {
         candidate.multiplicity == multiplicity
-            && match_prepared(self.basis, self.symprec, &candidate.space, position).is_some()
+            && is_fit(match_prepared(self.basis, self.symprec, &candidate.space, position))
     }
 
     // moyo's `find_for_orbit`: the letter of the first candidate of the orbit's multiplicity that the position fits.

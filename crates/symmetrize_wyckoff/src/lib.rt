@@ -10,8 +10,9 @@ mod verdicts;
 mod walk;
 mod write;
 
-ghost use Rattle.std.specs.Prelude.{◌≡◌, is_ok, IfErr};
+ghost use Rattle.std.specs.Prelude.{◌≡◌, is_ok, IfErr, length, ◌≤◌};
 ghost use Rattle.definitions.specs.declared.Refusal.TheVariants.{OrbitFit};
+ghost use Rattle.definitions.specs.Limits.{most_candidates};
 ghost use Rattle.definitions.specs.Wyckoff.{letter_of};
 ghost use Rattle.definitions.specs.SiteCalls.{sites_in, Assigned, LetterPromise};
 ghost use Rattle.base_cell.specs.Given.{orbit_cells, SameRooms, SameOrbits};
@@ -30,13 +31,21 @@ use definitions::limits::MOST_CANDIDATES;
 use definitions::{Refusal, Verdict};
 use lent::clear;
 
-// The letter of each label, the candidates' spaces worked out first.
-fn letter_table(labels: &[u16], multiplicities: &[u16], placed: &Placed) -> Letters
-    requires { Assignable (assign_with (placed_of placed.now) labels.now multiplicities.now) }
+// A table for so many candidates is made faster than one for the most.
+const USUAL_CANDIDATES: usize = 16;
+
+// The letter of each label, the candidates' spaces worked out first, in a table for N of them.
+fn letter_table_within<const N: usize>(
+    labels: &[u16],
+    multiplicities: &[u16],
+    placed: &Placed,
+) -> Letters
+    requires { Assignable (assign_with (placed_of placed.now) labels.now multiplicities.now)
+        × (length placed.now.spaces.now ≤ N) × (N ≤ most_candidates) }
     ensures { NotesAll
         (letter_of (sites_in (assign_with (placed_of placed.now) labels.now multiplicities.now))) result }
 {
-    let mut table = [NO_CANDIDATE; MOST_CANDIDATES];
+    let mut table = [NO_CANDIDATE; N];
     put_candidates(placed, &mut table);
     let candidates = Candidates {
         basis: placed.basis,
@@ -44,6 +53,18 @@ fn letter_table(labels: &[u16], multiplicities: &[u16], placed: &Placed) -> Lett
         listed: &table[..placed.spaces.len()],
     };
     note_letters(labels, multiplicities, placed.positions, &candidates)
+}
+
+// The table is short where there are few candidates.
+fn letter_table(labels: &[u16], multiplicities: &[u16], placed: &Placed) -> Letters
+    requires { Assignable (assign_with (placed_of placed.now) labels.now multiplicities.now) }
+    ensures { NotesAll
+        (letter_of (sites_in (assign_with (placed_of placed.now) labels.now multiplicities.now))) result }
+{
+    if placed.spaces.len() <= USUAL_CANDIDATES {
+        return letter_table_within::<USUAL_CANDIDATES>(labels, multiplicities, placed);
+    }
+    letter_table_within::<MOST_CANDIDATES>(labels, multiplicities, placed)
 }
 
 // moyo's `assign_wyckoffs_by_orbit`: every orbit's letter at its sites, or none where an orbit has none.

@@ -1,6 +1,5 @@
 // The candidates with their spaces as floats, worked out once a candidate: moyo works them out anew in each match.
 ghost use Rattle.std.specs.Prelude.{[], ◌≤◌, ◌≡◌, length};
-ghost use Rattle.definitions.specs.Limits.{most_candidates};
 ghost use Rattle.symmetrize_wyckoff.specs.Given.{placed_of};
 ghost use Rattle.symmetrize_wyckoff.specs.Lettering.{assign_with};
 ghost use Rattle.symmetrize_wyckoff.specs.Prepared.{PutCandidates};
@@ -8,11 +7,7 @@ ghost use Rattle.symmetrize_wyckoff.specs.Prepared.{PutCandidates};
 use crate::arguments::Placed;
 use crate::find::Candidate;
 use definitions::Position;
-use definitions::limits::MOST_CANDIDATES;
 use symmetrize_match::RealSpace;
-
-// One a candidate.
-pub(crate) type Prepared = [Candidate; MOST_CANDIDATES];
 
 const ORIGIN: Position = Position {
     x: 0.0,
@@ -34,11 +29,11 @@ pub(crate) const NO_CANDIDATE: Candidate = Candidate {
 };
 
 // The table is the caller's: one that is returned is copied twice.
-pub(crate) fn put_candidates(placed: &Placed, out: &mut Prepared)
-    requires { (length placed.now.spaces.now ≤ most_candidates)
+pub(crate) fn put_candidates(placed: &Placed, out: &mut [Candidate])
+    requires { (length placed.now.spaces.now ≤ length out.old)
         × (length placed.now.multiplicities.now ≡ length placed.now.spaces.now)
         × (length placed.now.letters.now ≡ length placed.now.spaces.now) }
-    ensures size { length out.new ≡ most_candidates }
+    ensures size { length out.new ≡ length out.old }
     ensures candidates { PutCandidates (assign_with (placed_of placed.now) [] [])
         (length placed.now.spaces.now) out.new }
 {

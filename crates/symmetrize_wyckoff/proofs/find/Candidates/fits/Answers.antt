@@ -9,9 +9,9 @@ pub returns-then-candidate-multiplicity : goal.returns-then-candidate-multiplici
 returns-then-candidate-multiplicity c =
     let a = c.args in
     let s = a.self.now in
-    same_count s.basis s.symprec a.multiplicity a.position a.candidate.now c.is_some.result
+    same_count s.basis s.symprec a.multiplicity a.position a.candidate.now c.is_fit.result
     c.if-candidate-multiplicity.true
-    (c.is_some.ensures ∙ ap is_some c.match_prepared.ensures)
+    (c.is_fit.ensures ∙ ap is_some c.match_prepared.ensures)
 
 pub returns-else-candidate-multiplicity : goal.returns-else-candidate-multiplicity
 returns-else-candidate-multiplicity c =
