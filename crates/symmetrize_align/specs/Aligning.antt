@@ -1,22 +1,18 @@
 -- The last of the transformed rotations that is a target's, and the permutations by it: what the functions here say of
 -- each other.
-use Rattle.std.specs.Prelude.{ℕ, ◌*◌, ◌≤◌, ◌≡◌, Bool, true, false, ℤ, ◌&&◌, List, [], ◌++◌, reverse, get_or, length, drop}
+use Rattle.std.specs.Prelude.{ℕ, ◌*◌, ◌≤◌, ◌≡◌, Bool, true, false, List, [], ◌++◌, reverse, get_or, length, drop}
 use Rattle.std.specs.Prelude.{Option as Found, Some, None}
 use Rattle.std.proofs.Math.Option.{Option, none, some}
 use Rattle.std.specs.Prelude.{Err, Ok}
 use Rattle.definitions.specs.declared.Refusal.TheVariants.{TargetRotation}
 use Rattle.definitions.specs.Lists.{any, each, first, up_to}
 use Rattle.definitions.specs.Limits.{most_sites, most_operations}
-use Rattle.definitions.specs.Matrix.{Matrix, item}
+use Rattle.definitions.specs.Matrix.{Matrix}
 use Rattle.definitions.specs.Calls.{align_conditions}
 use Rattle.definitions.specs.Refusal.{Condition, Verdict, Checked}
-use Rattle.definitions.specs.Transformation.{same_z, same_matrix, is_none, permutation_or, rotation_absent, aligned_to}
+use Rattle.definitions.specs.Transformation.{same_matrix, is_none, permutation_or, rotation_absent, aligned_to}
 use Rattle.laws.specs.Verdicts.{Passed}
 use Rattle.symmetrize_align.specs.declared.GivenAlignment.{GivenAlignment}
-
--- two rows have the same entries
-abbrev pub same_rows : List ℤ → List ℤ → Bool
-same_rows a b = same_z (item a 0) (item b 0) && same_z (item a 1) (item b 1) && same_z (item a 2) (item b 2)
 
 -- ---- the search
 

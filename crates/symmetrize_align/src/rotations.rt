@@ -1,7 +1,7 @@
 // The rotations of the operations in the selected primitive basis, and the search among them.
-ghost use Rattle.std.specs.Prelude.{◌≤◌, ◌≡◌, ◌++◌, map, length, drop};
-ghost use Rattle.definitions.specs.Transformation.{same_matrix, transform_rotation};
-ghost use Rattle.symmetrize_align.specs.Aligning.{found, last_of, same_rows};
+ghost use Rattle.std.specs.Prelude.{◌≤◌, ◌≡◌, [], ◌∷◌, ◌++◌, map, length, drop};
+ghost use Rattle.definitions.specs.Transformation.{same_row, same_matrix, transform_rotation};
+ghost use Rattle.symmetrize_align.specs.Aligning.{found, last_of};
 
 use definitions::{Integers, Linear, Rotation};
 use math_matrix::{transform_by, unimodular_inverse, widened, wider};
@@ -9,7 +9,7 @@ use math_matrix::{transform_by, unimodular_inverse, widened, wider};
 // Three tests without a branch. No `==` of the arrays, which goes entry by entry: the search is half of the work of a job
 // with many operations and few sites.
 fn same_row(a: [i64; 3], b: [i64; 3]) -> bool
-    ensures { result ≡ same_rows a b }
+    ensures { result ≡ same_row (a ∷ []) (b ∷ []) 0 }
 {
     (a[0] == b[0]) & (a[1] == b[1]) & (a[2] == b[2])
 }

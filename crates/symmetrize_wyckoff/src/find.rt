@@ -19,12 +19,7 @@ fn is_fit(tried: Option<Fit>) -> bool
     ensures { result ≡ is_some tried }
 {
     match tried {
-        Some(
-            Fit {
-                place: _,
-                distance: _,
-            },
-        ) => true,
+        Some(Fit { .. }) => true,
         None => false,
     }
 }
